@@ -1,0 +1,16 @@
+pub mod Outside
+pub mod Memory
+pub mod Sides
+pub mod Colours
+pub mod Inks
+pub mod Points
+pub mod Regions
+pub mod Windows
+pub mod Sheets
+pub mod Mail
+pub mod States
+pub mod Scenes
+pub mod Histories
+pub mod Shown
+pub mod Books
+pub mod Lending

@@ -1,0 +1,204 @@
+//! Sources and sinks in memory: some whose calls fail as they are told, and some that never fail.
+ghost use Rattle.std.specs.Prelude.{◌≡◌, ◌<◌, ◌≤◌, ◌+◌, ℕ, List, [], Some, None, OnOk, IfOk};
+
+use crate::lists::OutOfMemory;
+use crate::streams::{Failed, Sink, Source};
+use std::alloc::Global;
+use std::marker::Model;
+
+#[derive(Drop)]
+pub struct MemSource {
+    bytes: Vec<u8>,
+    at: usize,
+    max_piece: usize,
+    failing: Vec<u64>,
+    calls: u64,
+    faults: u64,
+}
+
+impl Model for MemSource {
+    ghost use Rattle.std.specs.Prelude.{◌<◌, ◌≤◌, drop, vec_len};
+    ghost use Rattle.qws_base.specs.Memory.{Feed};
+
+    ghost Value = { Feed };
+
+    ghost view = { λ s. record { left = drop s.at s.bytes.items; max_piece = s.max_piece; calls = s.calls; faults = s.faults; failing = s.failing.items } };
+
+    ghost invariant = { λ s. (s.at ≤ vec_len s.bytes) × (0 < s.max_piece) };
+}
+
+impl MemSource {
+    /// Gives these bytes in pieces of at most that many, and fails at the calls of these numbers, from 1.
+    pub fn new(bytes: Vec<u8>, max_piece: usize, failing: Vec<u64>) -> Self
+        requires { 0 < max_piece }
+        ensures { result ≡ record { left = bytes.items; max_piece = max_piece; calls = 0; faults = 0; failing = failing.items } }
+    {
+        MemSource {
+            bytes,
+            at: 0,
+            max_piece,
+            failing,
+            calls: 0,
+            faults: 0,
+        }
+    }
+}
+
+impl Source for MemSource {
+    ghost left = { λ s. Some s.left };
+
+    ghost faults = { λ s. s.faults };
+
+    ghost reads = { λ s. s.calls };
+
+    fn read(&mut self, piece: &mut [u8]) -> Result<usize, Failed> {
+        self.calls = self.calls.saturating_add(1);
+        if self.failing.contains(&self.calls) {
+            self.faults = self.faults.saturating_add(1);
+            return Err(Failed);
+        }
+        let n = piece
+            .len()
+            .min(self.max_piece)
+            .min(self.bytes.len() - self.at);
+        piece[..n].copy_from_slice(&self.bytes[self.at..self.at + n]);
+        self.at += n;
+        Ok(n)
+    }
+}
+
+#[derive(Drop)]
+pub struct MemSink {
+    bytes: Vec<u8>,
+    max_piece: usize,
+    failing: Vec<u64>,
+    calls: u64,
+    faults: u64,
+}
+
+impl Model for MemSink {
+    ghost use Rattle.std.specs.Prelude.{◌<◌, vec_capacity};
+    ghost use Rattle.qws_base.specs.Memory.{Store};
+
+    ghost Value = { Store };
+
+    ghost view = { λ s. record { written = s.bytes.items; room = vec_capacity s.bytes; max_piece = s.max_piece; calls = s.calls; faults = s.faults; failing = s.failing.items } };
+
+    ghost invariant = { λ s. 0 < s.max_piece };
+}
+
+impl MemSink {
+    /// Takes its room now. It takes pieces of at most that many bytes, and fails at the calls of these numbers, from 1,
+    /// and where the room is full.
+    pub fn new(
+        alloc: Global,
+        room: usize,
+        max_piece: usize,
+        failing: Vec<u64>,
+    ) -> Result<Self, OutOfMemory>
+        requires { 0 < max_piece }
+        ensures { IfOk result (λ s. s ≡ record { written = []; room = room; max_piece = max_piece; calls = 0; faults = 0; failing = failing.items }) }
+    {
+        let Ok(bytes) = Vec::with_capacity(alloc, room) else {
+            return Err(OutOfMemory);
+        };
+        Ok(MemSink {
+            bytes,
+            max_piece,
+            failing,
+            calls: 0,
+            faults: 0,
+        })
+    }
+
+    /// What was written.
+    pub fn bytes(&self) -> &[u8]
+        ensures { result.now ≡ self.now.written }
+    {
+        &self.bytes
+    }
+}
+
+impl Sink for MemSink {
+    ghost written = { λ s. Some s.written };
+
+    ghost faults = { λ s. s.faults };
+
+    fn write(&mut self, piece: &[u8]) -> Result<usize, Failed> {
+        self.calls = self.calls.saturating_add(1);
+        let n = piece
+            .len()
+            .min(self.max_piece)
+            .min(self.bytes.capacity() - self.bytes.len());
+        let is_full = n == 0 && !piece.is_empty();
+        if is_full || self.failing.contains(&self.calls) {
+            self.faults = self.faults.saturating_add(1);
+            return Err(Failed);
+        }
+        if self.bytes.extend_from_slice(&piece[..n]).is_err() {
+            self.faults = self.faults.saturating_add(1);
+            return Err(Failed);
+        }
+        Ok(n)
+    }
+}
+
+/// Gives all it has at once, and never fails.
+#[derive(Drop)]
+pub struct CleanSource {
+    bytes: Vec<u8>,
+    at: usize,
+}
+
+impl Model for CleanSource {
+    ghost use Rattle.std.specs.Prelude.{◌≤◌, List, ℕ, drop, vec_len};
+
+    ghost Value = { List ℕ };
+
+    ghost view = { λ s. drop s.at s.bytes.items };
+
+    ghost invariant = { λ s. s.at ≤ vec_len s.bytes };
+}
+
+impl CleanSource {
+    pub fn new(bytes: Vec<u8>) -> Self
+        ensures { result ≡ bytes.items }
+    {
+        CleanSource { bytes, at: 0 }
+    }
+}
+
+impl Source for CleanSource {
+    ghost left = { λ s. Some s };
+
+    ghost faults = { λ s. 0 };
+
+    ghost reads = { λ s. 0 };
+
+    fn read(&mut self, piece: &mut [u8]) -> Result<usize, Failed> {
+        let n = piece.len().min(self.bytes.len() - self.at);
+        piece[..n].copy_from_slice(&self.bytes[self.at..self.at + n]);
+        self.at += n;
+        Ok(n)
+    }
+}
+
+/// Takes all, keeps nothing, and never fails.
+#[derive(Drop)]
+pub struct CleanSink;
+
+impl CleanSink {
+    pub fn new() -> Self {
+        CleanSink
+    }
+}
+
+impl Sink for CleanSink {
+    ghost written = { λ s. None };
+
+    ghost faults = { λ s. 0 };
+
+    fn write(&mut self, piece: &[u8]) -> Result<usize, Failed> {
+        Ok(piece.len())
+    }
+}
