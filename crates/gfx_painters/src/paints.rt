@@ -3,7 +3,7 @@ use gfx_fills::Fill;
 use qws_base::{Ink, Picture, Rect};
 
 /// Something to paint. Its sheet is that of the picture in it.
-#[derive(Drop)]
+#[derive(Debug, Drop)]
 pub enum Paint {
     /// One ink on a rectangle.
     Fill { fill: Fill },
