@@ -3,7 +3,7 @@ ghost use Rattle.std.specs.Prelude.{◌≡◌, IfOk};
 ghost use Rattle.qws_base.specs.States.{is_refused, opening_state, step};
 ghost use Rattle.window_core.specs.CoreViews.{AllPlaced, Belongs, IsPlannable};
 
-use crate::plans::{Plan, plan};
+use crate::plans::{Plan, make_plan};
 use qws_base::{Command, OutOfMemory, Reply, Rgb, Size, WindowView};
 use std::alloc::Global;
 use std::marker::Model;
@@ -68,7 +68,7 @@ impl Core {
         ensures client { IfOk result (λ plan. plan.client ≡ client) }
         ensures command { IfOk result (λ plan. plan.command ≡ command.now) }
     {
-        plan(alloc, &self.windows, client, command)
+        make_plan(alloc, &self.windows, client, command)
     }
 
     /// Makes the step of a plan that was made from the present state, and gives the plan's copy of the command and the

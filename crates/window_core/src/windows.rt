@@ -22,7 +22,7 @@ pub fn first_window(
     client: u32,
     layer: u32,
 ) -> Result<Vec<WindowView>, OutOfMemory>
-    ensures windows { IfOk result (λ v. v.items ≡ new_window slot client layer ∷ []) }
+    ensures { IfOk result (λ v. v.items ≡ new_window slot client layer ∷ []) }
 {
     let mut windows = Vec::new(alloc);
     windows.push(WindowView {
