@@ -2,7 +2,7 @@
 ghost use Rattle.std.specs.Prelude.{◌≡◌};
 ghost use Rattle.session_script.specs.declared.lines.ScriptStop.TheVariants.{OutOfMemory as no_memory};
 
-use qws_base::{Bytes, Ink, Point, Rect, Rects};
+use qws_base::{Bytes, Ink, OutOfMemory, Point, Rect, Rects};
 use std::alloc::{AllocError, AllocFailed};
 
 /// How a line names a window.
@@ -10,6 +10,14 @@ use std::alloc::{AllocError, AllocFailed};
 pub enum Window {
     /// By the name that a `create` of the same client gave.
     Named { name: Bytes },
+}
+
+/// What a line of a call is about.
+#[derive(Clone, Copy, Debug, PartialEq, Eq)]
+pub enum Kind {
+    KindCreate,
+    KindRegion,
+    KindFill,
 }
 
 /// What a client calls in a line.
@@ -76,6 +84,14 @@ impl<T: Drop> From<AllocFailed<T>> for ScriptStop {
     ghost from_gives = { λ _ e. e ≡ no_memory };
 
     fn from(_: AllocFailed<T>) -> Self {
+        ScriptStop::OutOfMemory
+    }
+}
+
+impl From<OutOfMemory> for ScriptStop {
+    ghost from_gives = { λ _ e. e ≡ no_memory };
+
+    fn from(_: OutOfMemory) -> Self {
         ScriptStop::OutOfMemory
     }
 }
