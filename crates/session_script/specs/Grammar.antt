@@ -53,9 +53,13 @@ call_of KindCreate words = create_of words
 call_of KindRegion words = region_of words
 call_of KindFill words = fill_of words
 
+-- a kind and its words
+unfoldable pub kind_call_of : List ℕ → List (List ℕ) → Result LineCall Cause
+kind_call_of kind words = kind_of kind >>= λ k. call_of k words
+
 -- a client, a kind and its words
 unfoldable pub line_of : ℕ → List (List ℕ) → Result CallLine Cause
-line_of clients (client ∷ kind ∷ words) = joined (client_of clients client) (kind_of kind >>= λ k. call_of k words) >>= λ v. Ok (record { client = v.0; call = v.1 })
+line_of clients (client ∷ kind ∷ words) = joined (client_of clients client) (kind_call_of kind words) >>= λ v. Ok (record { client = v.0; call = v.1 })
 line_of clients words = Err Form
 
 -- ---- the calls

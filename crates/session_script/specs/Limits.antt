@@ -28,6 +28,6 @@ pub record IsSession (session : Session) : Type 0 where
   pub one_create : length (filter (λ line. is_create line.call) session.calls) ≤ 1
 
 -- a session, and the places of each client's lines
-pub record IsKept (session : Session) (index : List (List ℕ)) : Type 0 where
-  pub session : IsSession session
-  pub index : index ≡ index_of session.clients session.calls
+pub record IsKept (said : Session) (places : List (List ℕ)) : Type 0 where
+  pub session : IsSession said
+  pub index : places ≡ index_of said.clients said.calls

@@ -1,7 +1,6 @@
 //! The lines of calls.
 ghost use Rattle.std.specs.Prelude.{◌≡◌, ◌∷◌, [], map, IfOk};
-ghost use Rattle.session_script.specs.Causes.{◌>>=◌};
-ghost use Rattle.session_script.specs.Grammar.{create_of, rects_of, region_of, fill_of, kind_of, call_of, line_of};
+ghost use Rattle.session_script.specs.Grammar.{create_of, rects_of, region_of, fill_of, kind_of, call_of, kind_call_of, line_of};
 
 use crate::causes::join;
 use crate::lines::{CallLine, Cause, Kind, LineCall};
@@ -110,12 +109,13 @@ fn call_in(
 }
 
 // The call that a kind and its words make.
+#[tactic(auto, unfolding(crate::specs::Grammar::kind_call_of))]
 fn call(
     alloc: Global,
     kind_word: &[u8],
     words: &[&[u8]],
 ) -> Result<Result<LineCall, Cause>, OutOfMemory>
-    ensures { IfOk result (λ read. read ≡ (kind_of kind_word.now >>= λ k. call_of k (map (λ w. w.now) words.now))) }
+    ensures { IfOk result (λ read. read ≡ kind_call_of kind_word.now (map (λ w. w.now) words.now)) }
 {
     match kind(kind_word) {
         Ok(kind) => call_in(alloc, kind, words),

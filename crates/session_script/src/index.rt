@@ -34,7 +34,7 @@ impl Places {
 }
 
 // The places of the lines of a client.
-fn places(alloc: Global, lines: &[CallLine], client: u32) -> Result<Places, OutOfMemory>
+fn places_of(alloc: Global, lines: &[CallLine], client: u32) -> Result<Places, OutOfMemory>
     ensures { IfOk result (λ found. found ≡ places_by lines.now client) }
 {
     let mut items = Vec::new(alloc);
@@ -56,7 +56,7 @@ pub(crate) fn index(
 {
     let mut all = Vec::new(alloc);
     for client in 0..clients {
-        all.push(places(alloc, lines, client)?)?;
+        all.push(places_of(alloc, lines, client)?)?;
     }
     Ok(all)
 }

@@ -35,6 +35,24 @@ pub enum LineCall {
     Fill { window: Window, rect: Rect, ink: Ink },
 }
 
+impl LineCall {
+    ghost use Rattle.session_script.specs.Session.{is_create, is_paint};
+
+    /// Whether it asks for a window.
+    pub(crate) fn is_create(&self) -> bool
+        ensures { result ≡ is_create self.now }
+    {
+        matches!(self, LineCall::Create { .. })
+    }
+
+    /// Whether it paints.
+    pub(crate) fn is_paint(&self) -> bool
+        ensures { result ≡ is_paint self.now }
+    {
+        matches!(self, LineCall::Fill { .. })
+    }
+}
+
 /// A line with a call: its client, and what the client calls.
 #[derive(Debug, Drop)]
 pub struct CallLine {

@@ -1,6 +1,7 @@
 //! The names that a client has given, and what its lines mean with them.
 ghost use Rattle.std.specs.Prelude.{◌≡◌, ◌<◌, Some, [], length, IfOk, OnOk, OnErr};
 ghost use Rattle.std.specs.Option.{option_map};
+ghost use Rattle.session_script.specs.Limits.{IsCall};
 ghost use Rattle.session_script.specs.Session.{lines_by, call_line};
 ghost use Rattle.session_script.specs.Meaning.{NamesView, slot_of, window_slot, meaning, learned};
 
@@ -61,6 +62,54 @@ fn slot(places: &[Place], window: &Window) -> u32
     match window {
         Window::Named { name } => find_slot(places, name.as_slice()),
     }
+}
+
+// What a call means with these names.
+fn meaning(alloc: Global, places: &[Place], call: &LineCall) -> Result<Call, OutOfMemory>
+    requires { IsCall call.now }
+    ensures { IfOk result (λ made. made ≡ meaning places.now call.now) }
+{
+    match call {
+        LineCall::Create { name: _, layer } => Ok(Call::Step {
+            command: Command::Create { layer: *layer },
+        }),
+        LineCall::Region {
+            window,
+            origin,
+            rects,
+        } => Ok(Call::Step {
+            command: Command::Region {
+                slot: slot(places, window),
+                origin: *origin,
+                rects: rects.copy(alloc)?,
+            },
+        }),
+        LineCall::Fill { window, rect, ink } => Ok(Call::Paint {
+            slot: slot(places, window),
+            paint: Paint::Fill {
+                fill: Fill::new(*rect, *ink),
+            },
+        }),
+    }
+}
+
+// Takes in the reply to a call.
+fn learn(
+    alloc: Global,
+    places: &mut Vec<Place>,
+    call: &LineCall,
+    reply: &Reply,
+) -> Result<(), OutOfMemory>
+    ensures ok { OnOk result (places.new.items ≡ learned places.old.items call.now reply.now) }
+    ensures err { OnErr result (places.new.items ≡ places.old.items) }
+{
+    if let (LineCall::Create { name, layer: _ }, Reply::Created { slot }) = (call, reply) {
+        let name = name.copy(alloc)?;
+        if places.push(Place { name, slot: *slot }).is_err() {
+            return Err(OutOfMemory);
+        }
+    }
+    Ok(())
 }
 
 impl Names {

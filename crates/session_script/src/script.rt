@@ -1,14 +1,13 @@
 //! Scripts, and how bytes read as one.
-ghost use Rattle.std.specs.Prelude.{◌≡◌, ◌==◌, ◌<◌, Some, Ok, length, map, slice_index, IfOk};
-ghost use Rattle.session_script.specs.Causes.{◌>>=◌};
+ghost use Rattle.std.specs.Prelude.{◌≡◌, ◌<◌, Some, length, slice_get, IfOk};
+ghost use Rattle.std.specs.Option.{option_map};
 ghost use Rattle.session_script.specs.Session.{Session, step_count, paint_count, lines_by, call_line};
 ghost use Rattle.session_script.specs.Limits.{IsSession};
 ghost use Rattle.session_script.specs.Reading.{Reads};
-ghost use Rattle.session_script.specs.Words.{words_of};
 ghost use Rattle.session_script.specs.Grammar.{script_of};
 
-use crate::lines::{CallLine, Cause, LineCall, ScriptStop};
-use crate::index::{Places, index};
+use crate::index::Places;
+use crate::lines::{CallLine, ScriptStop};
 use qws_base::{Depth, Rgb, Size};
 use std::alloc::Global;
 use std::marker::Model;
@@ -81,7 +80,7 @@ impl Script {
             .calls
             .iter()
             .filter(|line| line.client == client)
-            .filter(|line| !is_paint(&line.call))
+            .filter(|line| !line.call.is_paint())
             .count();
         steps as u64
     }
@@ -94,7 +93,7 @@ impl Script {
             .calls
             .iter()
             .filter(|line| line.client == client)
-            .filter(|line| is_paint(&line.call))
+            .filter(|line| line.call.is_paint())
             .count();
         paints as u64
     }
