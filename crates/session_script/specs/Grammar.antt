@@ -4,7 +4,7 @@ use lib.Chars.{codes}
 use Rattle.std.specs.List.{slice_split, list_any}
 use Rattle.std.specs.Str.{bytes_eq}
 use Rattle.session_script.specs.Causes.{joined, ◌>>=◌}
-use Rattle.session_script.specs.Words.{words_of, number_of, in_range, layer_of, client_of, colour_of, name_of, window_of, point_of, rect_of, ink_of}
+use Rattle.session_script.specs.Words.{words_of, number_of, in_range, size_of, layer_of, client_of, colour_of, name_of, window_of, point_of, rect_of, ink_of}
 use Rattle.session_script.specs.Session.{Session, is_create}
 use Rattle.qws_base.specs.Sides.{Sides}
 use Rattle.qws_base.specs.declared.points.Rect.{Rect}
@@ -15,6 +15,7 @@ use Rattle.session_script.specs.declared.lines.Cause.TheVariants.{Form, Range, E
 use Rattle.session_script.specs.declared.lines.CallLine.{CallLine}
 use Rattle.session_script.specs.declared.lines.LineCall.{LineCall}
 use Rattle.session_script.specs.declared.lines.LineCall.TheVariants.{Create, Region, Fill}
+use Rattle.session_script.specs.declared.lines.Head.{Head}
 use Rattle.session_script.specs.declared.lines.Kind.{Kind}
 use Rattle.session_script.specs.declared.lines.Kind.TheVariants.{KindCreate, KindRegion, KindFill}
 
@@ -68,8 +69,12 @@ line_of clients words = Err Form
 abbrev pub has_create : List CallLine → Bool
 has_create calls = list_any (λ line. is_create line.call) calls
 
-abbrev pub with_line : Session → CallLine → Result Session Cause
-with_line session line = if is_create line.call && has_create session.calls then Err Form else Ok (record session { calls = session.calls ++ line ∷ [] })
+abbrev pub allowed : List CallLine → CallLine → Result CallLine Cause
+allowed calls line = if is_create line.call && has_create calls then Err Form else Ok line
+
+-- the call that a line makes behind these
+unfoldable pub next_line : ℕ → List CallLine → List ℕ → Result CallLine Cause
+next_line clients calls text = line_of clients (words_of text) >>= allowed calls
 
 -- the one part behind the last line is empty
 abbrev pub is_nothing : List (List ℕ) → Bool
@@ -78,20 +83,20 @@ is_nothing ([] ∷ []) = true
 is_nothing ([] ∷ line ∷ rest) = false
 is_nothing ((c ∷ line) ∷ rest) = false
 
--- calls up to the line `end`, behind which nothing stands; a part that no other follows isn't ended
-unfoldable pub calls_from : Session → List (List ℕ) → Result Session Cause
-calls_from session [] = Err End
-calls_from session (line ∷ rest) =
+-- The calls up to the line `end`, behind which nothing stands, these calls first. A part that no other follows isn't ended.
+unfoldable pub calls_from : ℕ → List CallLine → List (List ℕ) → Result (List CallLine) Cause
+calls_from clients calls [] = Err End
+calls_from clients calls (text ∷ rest) =
     if length rest == 0 then Err End
-    else if bytes_eq line (codes "end") then (if is_nothing rest then Ok session else Err End)
-    else (line_of session.clients (words_of line) >>= with_line session >>= λ more. calls_from more rest)
+    else if bytes_eq text (codes "end") then (if is_nothing rest then Ok calls else Err End)
+    else (next_line clients calls text >>= λ line. calls_from clients (calls ++ line ∷ []) rest)
 
 -- ---- the head
 
 -- `screen W H COLOUR`
 unfoldable pub screen_of : List (List ℕ) → Result (Sides × ℕ) Cause
 screen_of (kind ∷ w ∷ h ∷ colour ∷ []) =
-    if bytes_eq kind (codes "screen") then (joined (joined (number_of w >>= in_range 1 640) (number_of h >>= in_range 1 480)) (colour_of colour) >>= λ v. Ok (record { w = v.0.0; h = v.0.1 }, v.1))
+    if bytes_eq kind (codes "screen") then (joined (size_of w h) (colour_of colour))
     else Err Form
 screen_of words = Err Form
 
@@ -112,18 +117,32 @@ abbrev pub is_depth_line : List (List ℕ) → Bool
 is_depth_line [] = false
 is_depth_line (kind ∷ words) = bytes_eq kind (codes "depth")
 
--- the lines `screen` and `clients`, and calls
-unfoldable pub screen_from : Depth → List (List ℕ) → Result Session Cause
-screen_from depth (first ∷ second ∷ rest) = do
-  screen ← screen_of (words_of first)
-  clients ← clients_of (words_of second)
-  calls_from (record { depth = depth; size = screen.0; backdrop = screen.1; clients = clients; calls = [] }) rest
-screen_from depth lines = Err End
+-- the words of the lines `screen` and `clients`
+unfoldable pub head_in : Depth → List (List ℕ) → List (List ℕ) → Result Head Cause
+head_in depth first second = do
+  screen ← screen_of first
+  clients ← clients_of second
+  Ok (record { depth = depth; size = screen.0; backdrop = screen.1; clients = clients })
+
+abbrev pub head_of : Depth → List ℕ → List ℕ → Result Head Cause
+head_of depth first second = head_in depth (words_of first) (words_of second)
+
+abbrev pub session_of : Head → List CallLine → Session
+session_of head calls = record { depth = head.depth; size = head.size; backdrop = head.backdrop; clients = head.clients; calls = calls }
+
+-- a head, and the calls behind it
+unfoldable pub session_at : Head → List (List ℕ) → Result Session Cause
+session_at head lines = calls_from head.clients [] lines >>= λ calls. Ok (session_of head calls)
+
+-- the lines behind a depth; each line of the head is ended
+unfoldable pub session_behind : Depth → List (List ℕ) → Result Session Cause
+session_behind depth (first ∷ second ∷ third ∷ rest) = head_of depth first second >>= λ head. session_at head (third ∷ rest)
+session_behind depth lines = Err End
 
 -- a first line `depth 16`, or none
 unfoldable pub session_from : List (List ℕ) → Result Session Cause
-session_from [] = Err End
-session_from (first ∷ rest) = if is_depth_line (words_of first) then (depth_of (words_of first) >>= λ depth. screen_from depth rest) else screen_from Full (first ∷ rest)
+session_from (first ∷ second ∷ rest) = if is_depth_line (words_of first) then (depth_of (words_of first) >>= λ depth. session_behind depth (second ∷ rest)) else session_behind Full (first ∷ second ∷ rest)
+session_from lines = Err End
 
 -- what the bytes say, where they are a script
 unfoldable pub script_of : List ℕ → Result Session Cause

@@ -20,12 +20,16 @@ pub record IsLine (clients : ℕ) (line : CallLine) : Type 0 where
   pub client : line.client < clients
   pub call : IsCall line.call
 
+-- calls of so many clients, at most one of them a create
+pub record IsCalls (clients : ℕ) (calls : List CallLine) : Type 0 where
+  pub each : All (IsLine clients) calls
+  pub one_create : length (filter (λ line. is_create line.call) calls) ≤ 1
+
 pub record IsSession (session : Session) : Type 0 where
   pub screen : IsScreen session.size
   pub backdrop : session.backdrop < 2 ^ 24
   pub clients : session.clients ≤ 1
-  pub lines : All (IsLine session.clients) session.calls
-  pub one_create : length (filter (λ line. is_create line.call) session.calls) ≤ 1
+  pub calls : IsCalls session.clients session.calls
 
 -- a session, and the places of each client's lines
 pub record IsKept (said : Session) (places : List (List ℕ)) : Type 0 where

@@ -12,3 +12,8 @@ abbrev pub Reads : Result Session ScriptStop → Result Session Cause → Type 0
 Reads (Ok session) said = said ≡ Ok session
 Reads (Err (Bad line cause)) said = (line ≡ 0) × (cause ≡ Form) × IsErr said
 Reads (Err OutOfMemory) said = ⊤
+
+-- what a part of a script reads as
+abbrev pub ReadsAs : {X Y : Type 0} → (X → Y) → Result X Cause → Result Y Cause → Type 0
+ReadsAs view (Ok x) said = said ≡ Ok (view x)
+ReadsAs view (Err cause) said = said ≡ Err cause

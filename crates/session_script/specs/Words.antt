@@ -5,6 +5,7 @@ use Rattle.std.specs.List.{slice_split, list_all}
 use Rattle.std.specs.Str.{bytes_eq}
 use Rattle.std.specs.Str.Parse.{digits_value}
 use Rattle.session_script.specs.Causes.{joined, ◌>>=◌}
+use Rattle.qws_base.specs.Sides.{Sides}
 use Rattle.qws_base.specs.declared.points.Point.{Point}
 use Rattle.qws_base.specs.declared.points.Rect.{Rect}
 use Rattle.qws_base.specs.declared.inks.Ink.{Ink}
@@ -52,6 +53,14 @@ place_of word = signed_of word >>= in_places
 unfoldable pub side_of : List ℕ → Result ℕ Cause
 side_of word = number_of word >>= in_range 1 4096
 
+-- a screen's width: 1 to 640
+unfoldable pub width_of : List ℕ → Result ℕ Cause
+width_of word = number_of word >>= in_range 1 640
+
+-- a screen's height: 1 to 480
+unfoldable pub height_of : List ℕ → Result ℕ Cause
+height_of word = number_of word >>= in_range 1 480
+
 -- a layer: 0 or 1
 unfoldable pub layer_of : List ℕ → Result ℕ Cause
 layer_of word = number_of word >>= in_range 0 1
@@ -92,6 +101,10 @@ window_of word = name_of word >>= λ name. Ok (Named name)
 
 unfoldable pub point_of : List ℕ → List ℕ → Result Point Cause
 point_of x y = joined (place_of x) (place_of y) >>= λ v. Ok (record { x = v.0; y = v.1 })
+
+-- a screen's size
+unfoldable pub size_of : List ℕ → List ℕ → Result Sides Cause
+size_of w h = joined (width_of w) (height_of h) >>= λ v. Ok (record { w = v.0; h = v.1 })
 
 unfoldable pub rect_of : List ℕ → List ℕ → List ℕ → List ℕ → Result Rect Cause
 rect_of x y w h = joined (joined (place_of x) (place_of y)) (joined (side_of w) (side_of h)) >>= λ v. Ok (record { x = v.0.0; y = v.0.1; w = v.1.0; h = v.1.1 })

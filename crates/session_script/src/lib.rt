@@ -6,6 +6,7 @@ mod causes;
 mod index;
 mod lines;
 mod names;
+mod reading;
 mod script;
 mod words;
 

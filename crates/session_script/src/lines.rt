@@ -2,7 +2,7 @@
 ghost use Rattle.std.specs.Prelude.{◌≡◌};
 ghost use Rattle.session_script.specs.declared.lines.ScriptStop.TheVariants.{OutOfMemory as no_memory};
 
-use qws_base::{Bytes, Ink, OutOfMemory, Point, Rect, Rects};
+use qws_base::{Bytes, Depth, Ink, OutOfMemory, Point, Rect, Rects, Rgb, Size};
 use std::alloc::{AllocError, AllocFailed};
 
 /// How a line names a window.
@@ -58,6 +58,15 @@ impl LineCall {
 pub struct CallLine {
     pub client: u32,
     pub call: LineCall,
+}
+
+/// What the lines before the calls say: the screen, and how many clients there are.
+#[derive(Clone, Copy, Debug, PartialEq, Eq)]
+pub struct Head {
+    pub depth: Depth,
+    pub size: Size,
+    pub backdrop: Rgb,
+    pub clients: u32,
 }
 
 /// Why a line is bad. Where several causes apply, the first in this order is given.

@@ -1,14 +1,15 @@
 //! Scripts, and how bytes read as one.
-ghost use Rattle.std.specs.Prelude.{◌≡◌, ◌<◌, Some, length, slice_get, IfOk};
+ghost use Rattle.std.specs.Prelude.{◌≡◌, ◌<◌, ◌≤◌, Some, length, slice_get, IfOk};
 ghost use Rattle.std.specs.Option.{option_map};
 ghost use Rattle.session_script.specs.Session.{Session, step_count, paint_count, lines_by, call_line};
-ghost use Rattle.session_script.specs.Limits.{IsSession};
+ghost use Rattle.session_script.specs.Limits.{IsCall, IsSession, IsCalls};
 ghost use Rattle.session_script.specs.Reading.{Reads};
-ghost use Rattle.session_script.specs.Grammar.{script_of};
+ghost use Rattle.session_script.specs.Grammar.{script_of, session_of};
 
-use crate::index::Places;
-use crate::lines::{CallLine, ScriptStop};
-use qws_base::{Depth, Rgb, Size};
+use crate::index::{Places, index};
+use crate::lines::{CallLine, Cause, Head, ScriptStop};
+use crate::reading::script;
+use qws_base::{Depth, OutOfMemory, Rgb, Size};
 use std::alloc::Global;
 use std::marker::Model;
 
@@ -34,13 +35,38 @@ impl Model for Script {
     ghost invariant = { λ s. IsKept (record { depth = s.depth; size = s.size; backdrop = s.backdrop; clients = s.clients; calls = s.calls.items }) s.index.items };
 }
 
+// The script of a head and its calls.
+pub(crate) fn made(alloc: Global, head: Head, calls: Vec<CallLine>) -> Result<Script, OutOfMemory>
+    requires clients { head.clients ≤ 1 }
+    requires calls { IsCalls head.clients calls.items }
+    ensures { IfOk result (λ script. script ≡ session_of head calls.items) }
+{
+    let _screen = head.size.w();
+    let _colour = head.backdrop.value();
+    let index = index(alloc, &calls, head.clients)?;
+    Ok(Script {
+        depth: head.depth,
+        size: head.size,
+        backdrop: head.backdrop,
+        clients: head.clients,
+        calls,
+        index,
+    })
+}
+
 impl Script {
-    /// What bytes say. Bad exactly where they are no script.
+    /// What bytes say. Bad exactly where they are no script; so far with line 0 and the cause `Form`, whatever is bad.
     pub fn read(alloc: Global, bytes: &[u8]) -> Result<Script, ScriptStop>
         ensures reads { Reads result (script_of bytes.now) }
         ensures session { IfOk result (λ script. IsSession script) }
     {
-        Err(ScriptStop::OutOfMemory)
+        match script(alloc, bytes)? {
+            Ok(script) => Ok(script),
+            Err(_) => Err(ScriptStop::Bad {
+                line: 0,
+                cause: Cause::Form,
+            }),
+        }
     }
 
     /// The depth of the screen.
@@ -118,7 +144,8 @@ impl Script {
     /// A client's call `k`, counted from 0.
     pub(crate) fn line(&self, client: u32, k: u64) -> &CallLine
         requires { k < length (lines_by self.now client) }
-        ensures { Some result.now ≡ call_line self.now client k }
+        ensures line { Some result.now ≡ call_line self.now client k }
+        ensures call { IsCall result.now.call }
     {
         let places = &self.index[client as usize];
         &self.calls[places.at(k)]

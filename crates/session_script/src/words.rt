@@ -4,12 +4,12 @@ ghost use Rattle.std.specs.List.{slice_split, position, list_all};
 ghost use Rattle.std.specs.Str.{bytes_eq};
 ghost use Rattle.std.specs.Str.Parse.{digits_value};
 ghost use Rattle.std.specs.Char.{digit_value};
-ghost use Rattle.session_script.specs.Words.{words_of, is_digit, is_number, number_of, in_range, negated, signed_of, in_places, place_of, side_of, layer_of, below, client_of, is_hex, colour_of, is_name_byte, is_name_word, name_of, window_of, point_of, rect_of, ink_of};
+ghost use Rattle.session_script.specs.Words.{words_of, is_digit, is_number, number_of, in_range, negated, signed_of, in_places, place_of, side_of, width_of, height_of, layer_of, below, client_of, is_hex, colour_of, is_name_byte, is_name_word, name_of, window_of, point_of, size_of, rect_of, ink_of};
 
 use crate::causes::join;
 use crate::lines::{Cause, Window};
-use qws_base::{Bytes, Ink, OutOfMemory, Point, Rect, Rgb};
-use std::alloc::Global;
+use qws_base::{Bytes, Ink, OutOfMemory, Point, Rect, Rgb, Size};
+use std::alloc::{AllocError, Global};
 
 // The first place of a byte.
 fn place_of_byte(bytes: &[u8], at: u8) -> Option<usize>
@@ -30,10 +30,10 @@ pub(crate) fn cut(bytes: &[u8], at: u8) -> Option<(&[u8], &[u8])>
 }
 
 /// The words of a line.
-pub(crate) fn words(alloc: Global, line: &[u8]) -> Result<Vec<&[u8]>, OutOfMemory>
+pub(crate) fn words(alloc: Global, line: &[u8]) -> Result<Vec<&[u8]>, AllocError>
     ensures { IfOk result (λ words. map (λ w. w.now) words.items ≡ words_of line.now) }
 {
-    Ok(line.split(|c| *c == b' ').collect(alloc)?)
+    line.split(|c| *c == b' ').collect(alloc)
 }
 
 /// Whether a word is that text.
@@ -154,6 +154,22 @@ fn side(word: &[u8]) -> Result<u32, Cause>
     ensures { result ≡ side_of word.now }
 {
     within(1, 4096, number(word)?)
+}
+
+// The width of a screen.
+#[tactic(auto, unfolding(crate::specs::Words::width_of))]
+fn width(word: &[u8]) -> Result<u32, Cause>
+    ensures { result ≡ width_of word.now }
+{
+    within(1, 640, number(word)?)
+}
+
+// The height of a screen.
+#[tactic(auto, unfolding(crate::specs::Words::height_of))]
+fn height(word: &[u8]) -> Result<u32, Cause>
+    ensures { result ≡ height_of word.now }
+{
+    within(1, 480, number(word)?)
 }
 
 /// A layer.
@@ -280,6 +296,15 @@ pub(crate) fn point(x: &[u8], y: &[u8]) -> Result<Point, Cause>
 {
     let (x, y) = join(place(x), place(y))?;
     Ok(Point { x, y })
+}
+
+/// The size of a screen.
+#[tactic(auto, unfolding(crate::specs::Words::size_of))]
+pub(crate) fn size(w: &[u8], h: &[u8]) -> Result<Size, Cause>
+    ensures { result ≡ size_of w.now h.now }
+{
+    let (w, h) = join(width(w), height(h))?;
+    Size::new(w, h).ok_or(Cause::Range)
 }
 
 /// A rectangle.
