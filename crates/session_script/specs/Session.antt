@@ -1,6 +1,6 @@
 -- What a script says: the screen, with its backdrop as a colour; how many clients there are; and the calls in the order of
 -- their lines.
-use Rattle.std.specs.Prelude.{ℕ, Bool, true, false, ◌==◌, List, slice_get, Option}
+use Rattle.std.specs.Prelude.{ℕ, Bool, true, false, not, ◌==◌, List, length, slice_get, Option}
 use Rattle.std.specs.List.{filter}
 use Rattle.qws_base.specs.Sides.{Sides}
 use Rattle.qws_base.specs.Scenes.{Setting, setting_of}
@@ -31,7 +31,20 @@ lines_by session client = filter (is_by client) session.calls
 abbrev pub call_line : Session → ℕ → ℕ → Option CallLine
 call_line session client k = slice_get (lines_by session client) k
 
+abbrev pub is_create : LineCall → Bool
+is_create (Create name layer) = true
+is_create (Region window origin rects) = false
+is_create (Fill window rect ink) = false
+
 abbrev pub is_paint : LineCall → Bool
 is_paint (Create name layer) = false
 is_paint (Region window origin rects) = false
 is_paint (Fill window rect ink) = true
+
+-- how many commands a client gives
+abbrev pub step_count : Session → ℕ → ℕ
+step_count session client = length (filter (λ line. not (is_paint line.call)) (lines_by session client))
+
+-- how often it paints
+abbrev pub paint_count : Session → ℕ → ℕ
+paint_count session client = length (filter (λ line. is_paint line.call) (lines_by session client))

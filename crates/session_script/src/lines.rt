@@ -2,7 +2,7 @@
 ghost use Rattle.std.specs.Prelude.{◌≡◌};
 ghost use Rattle.session_script.specs.declared.lines.ScriptStop.TheVariants.{OutOfMemory as no_memory};
 
-use qws_base::{Bytes, Ink, Point, Rect, Rects};
+use qws_base::{Bytes, Depth, Ink, OutOfMemory, Point, Rect, Rects, Rgb, Size};
 use std::alloc::{AllocError, AllocFailed};
 
 /// How a line names a window.
@@ -10,6 +10,14 @@ use std::alloc::{AllocError, AllocFailed};
 pub enum Window {
     /// By the name that a `create` of the same client gave.
     Named { name: Bytes },
+}
+
+/// What a line of a call is about.
+#[derive(Clone, Copy, Debug, PartialEq, Eq)]
+pub enum Kind {
+    KindCreate,
+    KindRegion,
+    KindFill,
 }
 
 /// What a client calls in a line.
@@ -27,11 +35,38 @@ pub enum LineCall {
     Fill { window: Window, rect: Rect, ink: Ink },
 }
 
+impl LineCall {
+    ghost use Rattle.session_script.specs.Session.{is_create, is_paint};
+
+    /// Whether it asks for a window.
+    pub(crate) fn is_create(&self) -> bool
+        ensures { result ≡ is_create self.now }
+    {
+        matches!(self, LineCall::Create { .. })
+    }
+
+    /// Whether it paints.
+    pub(crate) fn is_paint(&self) -> bool
+        ensures { result ≡ is_paint self.now }
+    {
+        matches!(self, LineCall::Fill { .. })
+    }
+}
+
 /// A line with a call: its client, and what the client calls.
 #[derive(Debug, Drop)]
 pub struct CallLine {
     pub client: u32,
     pub call: LineCall,
+}
+
+/// What the lines before the calls say: the screen, and how many clients there are.
+#[derive(Clone, Copy, Debug, PartialEq, Eq)]
+pub struct Head {
+    pub depth: Depth,
+    pub size: Size,
+    pub backdrop: Rgb,
+    pub clients: u32,
 }
 
 /// Why a line is bad. Where several causes apply, the first in this order is given.
@@ -76,6 +111,14 @@ impl<T: Drop> From<AllocFailed<T>> for ScriptStop {
     ghost from_gives = { λ _ e. e ≡ no_memory };
 
     fn from(_: AllocFailed<T>) -> Self {
+        ScriptStop::OutOfMemory
+    }
+}
+
+impl From<OutOfMemory> for ScriptStop {
+    ghost from_gives = { λ _ e. e ≡ no_memory };
+
+    fn from(_: OutOfMemory) -> Self {
         ScriptStop::OutOfMemory
     }
 }
