@@ -11,7 +11,7 @@ use Rattle.qws_base.specs.declared.colours.Depth.TheVariants.{Full}
 use Rattle.session_script.specs.Causes.{◌>>=◌}
 use Rattle.session_script.specs.Session.{Session}
 use Rattle.session_script.specs.Words.{words_of}
-use Rattle.session_script.specs.Grammar.{lines_of, next_line, is_nothing, calls_from, head_of, session_of, session_at, session_behind, session_from, depth_of, is_depth_line}
+use Rattle.session_script.specs.Grammar.{lines_of, next_line, is_nothing, calls_from, head_of, session_of, session_at, session_behind, session_from, script_of, depth_of, is_depth_line}
 use Rattle.session_script.specs.declared.lines.Cause.{Cause}
 use Rattle.session_script.specs.declared.lines.Cause.TheVariants.{End}
 use Rattle.session_script.specs.declared.lines.CallLine.{CallLine}
@@ -96,3 +96,21 @@ session_ok head lines calls session read is = ap Ok is ∙ sym (next_ok (calls_f
 pub session_err : (head : Head) (lines : List (List ℕ)) (cause : Cause) → calls_from head.clients [] lines ≡ Err cause → Err cause ≡ session_at head lines
 unfolding session_at
 session_err head lines cause read = sym (next_err (calls_from head.clients [] lines) (λ cs. Ok (session_of head cs)) cause _ refl read)
+
+-- ---- the whole
+
+pub script_none : (bytes : List ℕ) → lines_of bytes ≡ bytes ∷ [] → Err End ≡ script_of bytes
+unfolding script_of
+script_none bytes is = sym (session_none bytes (lines_of bytes) is)
+
+pub script_plain : (first rest bytes : List ℕ) → lines_of bytes ≡ first ∷ lines_of rest → is_depth_line (words_of first) ≡ false → session_behind Full (lines_of bytes) ≡ script_of bytes
+unfolding script_of
+script_plain first rest bytes is plain = sym (session_first first rest (lines_of bytes) is ∙ rw plain refl)
+
+pub script_deep : (first rest bytes : List ℕ) (depth : Depth) → lines_of bytes ≡ first ∷ lines_of rest → is_depth_line (words_of first) ≡ true → depth_of (words_of first) ≡ Ok depth → session_behind depth (lines_of rest) ≡ script_of bytes
+unfolding script_of
+script_deep first rest bytes depth is deep read = sym (session_first first rest (lines_of bytes) is ∙ rw deep (next_ok (depth_of (words_of first)) (λ d. session_behind d (lines_of rest)) depth _ refl read))
+
+pub script_odd : (first rest bytes : List ℕ) (cause : Cause) → lines_of bytes ≡ first ∷ lines_of rest → is_depth_line (words_of first) ≡ true → depth_of (words_of first) ≡ Err cause → Err cause ≡ script_of bytes
+unfolding script_of
+script_odd first rest bytes cause is deep read = sym (session_first first rest (lines_of bytes) is ∙ rw deep (next_err (depth_of (words_of first)) (λ d. session_behind d (lines_of rest)) cause _ refl read))
