@@ -1,6 +1,6 @@
 -- What is read lies within the limits.
-use Rattle.std.proofs.Common.{◌≡◌, ℕ, ◌+◌, ◌<◌, ◌≤◌, ◌^◌, ℤ, pos, negsuc, ◌≤ℤ◌, int_le, List, [], ◌∷◌, ◌++◌, length, Bool, true, false, ◌&&◌, ◌||◌, cond, nat_le, nat_lt, Result, Ok, Err, refl, ap, sym, ◌∙◌, subst, arith, length-append}
-use Rattle.std.specs.Prelude.{All, if◌then◌else◌, ◌==◌, Option, None, Some, SomeIff, ok_or}
+use Rattle.std.proofs.Common.{◌≡◌, ℕ, ◌+◌, ◌<◌, ◌≤◌, ℤ, pos, negsuc, ◌≤ℤ◌, int_le, List, [], ◌∷◌, ◌++◌, length, Bool, true, false, ◌&&◌, ◌||◌, cond, nat_le, nat_lt, Result, Ok, Err, refl, ap, sym, ◌∙◌, subst, arith, length-append}
+use Rattle.std.specs.Prelude.{All, ◌==◌, Option, None, Some, SomeIff, ok_or}
 use Rattle.qws_base.specs.Sides.{Sides, IsScreen}
 use lib.Chars.{codes}
 use Rattle.std.specs.List.{filter, list_any}
@@ -143,7 +143,6 @@ create_ok (name ∷ layer ∷ []) call e =
     let parts = joined_ok (name_of name) (layer_of layer) read.0 read.1 in
     subst IsCall (ok_same (Create read.0.0 read.0.1) call read.2) (layer_ok layer read.0.1 parts.1)
 create_ok (name ∷ layer ∷ more ∷ words) call e = err_is_no_ok _ call e
-
 
 rects_ok : (words : List (List ℕ)) (rects : List Rect) → rects_of words ≡ Ok rects → All IsPlacedRect rects × (length rects ≤ 1)
 unfolding rects_of

@@ -1,4 +1,4 @@
-use Rattle.std.proofs.Common.{◌≡◌, ◌==◌, List, ◌++◌, ◌∷◌, [], length, Result, Ok, Err, Bool, cond, ap, sym, ◌∙◌}
+use Rattle.std.proofs.Common.{◌≡◌, List, ◌++◌, ◌∷◌, [], Result, Ok, Err, Bool, cond, ap, sym, ◌∙◌}
 use Rattle.session_script.specs.Grammar.{lines_of, next_line, calls_from}
 use Rattle.session_script.specs.declared.lines.Cause.{Cause}
 use Rattle.session_script.specs.declared.lines.Cause.TheVariants.{End}

@@ -1,8 +1,8 @@
-use Rattle.std.proofs.Common.{◌≡◌, List, ℕ, map, Bool, true, false, Ok, Err, ap, sym, ◌∙◌}
+use Rattle.std.proofs.Common.{◌≡◌, List, ℕ, map, true, false, Ok, Err, ap, sym, ◌∙◌}
 use Rattle.std.specs.Borrow.{Bor}
 use Rattle.std.proofs.lemmas.Result.{IfOk-weaker}
 use Rattle.session_script.specs.Words.{words_of}
-use Rattle.session_script.specs.Grammar.{lines_of, depth_of, is_depth_line}
+use Rattle.session_script.specs.Grammar.{depth_of, is_depth_line}
 use Rattle.session_script.proofs.LineByLine.{script_none, script_plain, script_deep, script_odd}
 use Rattle.session_script.proofs.reading.script.Goals as goal
 
