@@ -2,7 +2,7 @@
 use Rattle.std.proofs.Common.{◌≡◌, ℕ, ◌<◌, List, [], ◌∷◌, ◌++◌, length, Result, Ok, Err, Bool, true, false, cond, ◌==◌, refl, ap, sym, ◌∙◌, arith}
 use Rattle.std.specs.Prelude.{if◌then◌else◌}
 use lib.Chars.{codes}
-use Rattle.std.specs.List.{slice_split, onto_first}
+use Rattle.std.specs.List.{onto_first}
 use Rattle.std.specs.Str.{bytes_eq}
 use Rattle.std.proofs.lemmas.List.Splits.{length-slice_split}
 use Rattle.std.proofs.lemmas.Bool.Decides.{nat_tests}
@@ -11,10 +11,11 @@ use Rattle.qws_base.specs.declared.colours.Depth.TheVariants.{Full}
 use Rattle.session_script.specs.Causes.{◌>>=◌}
 use Rattle.session_script.specs.Session.{Session}
 use Rattle.session_script.specs.Words.{words_of}
-use Rattle.session_script.specs.Grammar.{lines_of, next_line, is_nothing, calls_from, head_of, session_at, session_behind, session_from, depth_of, is_depth_line}
+use Rattle.session_script.specs.Grammar.{lines_of, next_line, is_nothing, calls_from, head_of, session_of, session_at, session_behind, session_from, script_of, depth_of, is_depth_line}
 use Rattle.session_script.specs.declared.lines.Cause.{Cause}
 use Rattle.session_script.specs.declared.lines.Cause.TheVariants.{End}
 use Rattle.session_script.specs.declared.lines.CallLine.{CallLine}
+use Rattle.session_script.specs.declared.lines.Head.{Head}
 
 some_lines : (bytes : List ℕ) → 0 < length (lines_of bytes)
 some_lines bytes = omega (arith, length-slice_split (λ c. c == 10) bytes)
@@ -70,7 +71,7 @@ behind depth first second [] some = absurd (omega arith)
 behind depth first second (third ∷ rest) some = refl
 
 pub session_two : (depth : Depth) (first second bytes : List ℕ) (more lines : List (List ℕ)) → lines ≡ first ∷ more → more ≡ second ∷ lines_of bytes → session_behind depth lines ≡ (head_of depth first second >>= λ head. session_at head (lines_of bytes))
-session_two depth first second bytes more lines is then = ap (session_behind depth) (is ∙ ap (λ ls. first ∷ ls) then) ∙ behind depth first second (lines_of bytes) (some_lines bytes)
+session_two depth first second bytes more lines is after = ap (session_behind depth) (is ∙ ap (λ ls. first ∷ ls) after) ∙ behind depth first second (lines_of bytes) (some_lines bytes)
 
 pub behind_none : (depth : Depth) (first : List ℕ) (lines : List (List ℕ)) → lines ≡ first ∷ [] → session_behind depth lines ≡ Err End
 unfolding session_behind
@@ -78,4 +79,38 @@ behind_none depth first lines is = ap (session_behind depth) is
 
 pub behind_one : (depth : Depth) (first second : List ℕ) (more lines : List (List ℕ)) → lines ≡ first ∷ more → more ≡ second ∷ [] → session_behind depth lines ≡ Err End
 unfolding session_behind
-behind_one depth first second more lines is then = ap (session_behind depth) (is ∙ ap (λ ls. first ∷ ls) then)
+behind_one depth first second more lines is after = ap (session_behind depth) (is ∙ ap (λ ls. first ∷ ls) after)
+
+-- ---- what follows from the next part
+
+pub next_err : {A B : Type 0} (r : Result A Cause) (f : A → Result B Cause) (cause : Cause) (v : Result B Cause) → v ≡ (r >>= f) → r ≡ Err cause → v ≡ Err cause
+next_err {A} r f cause v is none = is ∙ ap (λ (o : Result A Cause). o >>= f) none
+
+pub next_ok : {A B : Type 0} (r : Result A Cause) (f : A → Result B Cause) (x : A) (v : Result B Cause) → v ≡ (r >>= f) → r ≡ Ok x → v ≡ f x
+next_ok {A} r f x v is some = is ∙ ap (λ (o : Result A Cause). o >>= f) some
+
+pub session_ok : (head : Head) (lines : List (List ℕ)) (calls : List CallLine) (session : Session) → calls_from head.clients [] lines ≡ Ok calls → session ≡ session_of head calls → Ok session ≡ session_at head lines
+unfolding session_at
+session_ok head lines calls session read is = ap Ok is ∙ sym (next_ok (calls_from head.clients [] lines) (λ cs. Ok (session_of head cs)) calls _ refl read)
+
+pub session_err : (head : Head) (lines : List (List ℕ)) (cause : Cause) → calls_from head.clients [] lines ≡ Err cause → Err cause ≡ session_at head lines
+unfolding session_at
+session_err head lines cause read = sym (next_err (calls_from head.clients [] lines) (λ cs. Ok (session_of head cs)) cause _ refl read)
+
+-- ---- the whole
+
+pub script_none : (bytes : List ℕ) → lines_of bytes ≡ bytes ∷ [] → Err End ≡ script_of bytes
+unfolding script_of
+script_none bytes is = sym (session_none bytes (lines_of bytes) is)
+
+pub script_plain : (first rest bytes : List ℕ) → lines_of bytes ≡ first ∷ lines_of rest → is_depth_line (words_of first) ≡ false → session_behind Full (lines_of bytes) ≡ script_of bytes
+unfolding script_of
+script_plain first rest bytes is plain = sym (session_first first rest (lines_of bytes) is ∙ rw plain refl)
+
+pub script_deep : (first rest bytes : List ℕ) (depth : Depth) → lines_of bytes ≡ first ∷ lines_of rest → is_depth_line (words_of first) ≡ true → depth_of (words_of first) ≡ Ok depth → session_behind depth (lines_of rest) ≡ script_of bytes
+unfolding script_of
+script_deep first rest bytes depth is deep read = sym (session_first first rest (lines_of bytes) is ∙ rw deep (next_ok (depth_of (words_of first)) (λ d. session_behind d (lines_of rest)) depth _ refl read))
+
+pub script_odd : (first rest bytes : List ℕ) (cause : Cause) → lines_of bytes ≡ first ∷ lines_of rest → is_depth_line (words_of first) ≡ true → depth_of (words_of first) ≡ Err cause → Err cause ≡ script_of bytes
+unfolding script_of
+script_odd first rest bytes cause is deep read = sym (session_first first rest (lines_of bytes) is ∙ rw deep (next_err (depth_of (words_of first)) (λ d. session_behind d (lines_of rest)) cause _ refl read))

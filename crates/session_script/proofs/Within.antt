@@ -1,10 +1,12 @@
 -- What is read lies within the limits.
-use Rattle.std.proofs.Common.{◌≡◌, ℕ, ◌+◌, ◌<◌, ◌≤◌, ◌^◌, ℤ, pos, negsuc, ◌≤ℤ◌, int_le, List, [], ◌∷◌, ◌++◌, length, Bool, true, false, ◌&&◌, ◌||◌, cond, nat_le, nat_lt, Result, Ok, Err, refl, ap, sym, ◌∙◌, subst, arith, length-append}
-use Rattle.std.specs.Prelude.{All, if◌then◌else◌, ◌==◌, Option, None, Some, SomeIff, ok_or}
+use Rattle.std.proofs.Common.{◌≡◌, ℕ, ◌+◌, ◌<◌, ◌≤◌, ℤ, pos, negsuc, ◌≤ℤ◌, int_le, List, [], ◌∷◌, ◌++◌, length, Bool, true, false, ◌&&◌, ◌||◌, cond, nat_le, nat_lt, Result, Ok, Err, refl, ap, sym, ◌∙◌, subst, arith, length-append}
+use Rattle.std.specs.Prelude.{All, ◌==◌, Option, None, Some, SomeIff, ok_or}
 use Rattle.qws_base.specs.Sides.{Sides, IsScreen}
 use lib.Chars.{codes}
 use Rattle.std.specs.List.{filter, list_any}
 use Rattle.std.specs.Str.{bytes_eq}
+use Rattle.std.specs.Int.Signed.{le_z_yes}
+use Rattle.std.proofs.lemmas.Float.{T_from_true}
 use Rattle.std.proofs.lemmas.Bool.Decides.{nat_tests}
 use Rattle.std.proofs.lemmas.List.Elements.{All-push, filter-append}
 use Rattle.qws_base.specs.Points.{IsPlaced}
@@ -13,7 +15,7 @@ use Rattle.qws_base.specs.declared.points.Rect.{Rect}
 use Rattle.gfx_fills.specs.Parts.{IsPlacedRect}
 use Rattle.session_script.specs.Causes.{joined, ◌>>=◌}
 use Rattle.session_script.specs.Words.{number_of, in_range, in_places, signed_of, place_of, side_of, layer_of, width_of, height_of, below, client_of, name_of, window_of, point_of, size_of, rect_of, ink_of, words_of}
-use Rattle.session_script.specs.Grammar.{create_of, rects_of, region_of, fill_of, kind_of, call_of, kind_call_of, line_of, has_create, allowed, next_line, is_nothing, calls_from, clients_of}
+use Rattle.session_script.specs.Grammar.{create_of, rects_of, region_of, fill_of, kind_of, call_of, kind_call_of, line_of, has_create, allowed, next_line, is_nothing, calls_from, screen_of, clients_of, head_in}
 use Rattle.session_script.specs.Session.{is_create}
 use Rattle.session_script.specs.Limits.{IsCall, IsLine, IsCalls}
 use Rattle.session_script.specs.declared.lines.Cause.{Cause}
@@ -21,6 +23,8 @@ use Rattle.session_script.specs.declared.lines.Cause.TheVariants.{Form, Range, E
 use Rattle.session_script.specs.declared.lines.CallLine.{CallLine}
 use Rattle.session_script.specs.declared.lines.LineCall.{LineCall}
 use Rattle.session_script.specs.declared.lines.LineCall.TheVariants.{Create, Region, Fill}
+use Rattle.session_script.specs.declared.lines.Head.{Head}
+use Rattle.qws_base.specs.declared.colours.Depth.{Depth}
 use Rattle.session_script.specs.declared.lines.Kind.{Kind}
 use Rattle.session_script.specs.declared.lines.Kind.TheVariants.{KindCreate, KindRegion, KindFill}
 
@@ -55,36 +59,36 @@ ok_same x y e = cc
 range_ok : (low high n m : ℕ) → in_range low high n ≡ Ok m → (low ≤ m) × (m ≤ high)
 range_ok low high n m e =
     let found = cond_ok (nat_le low n && nat_le n high) (Ok n) _ m e in
-    let ends = both _ _ found.0 in
+    let ends = both (nat_le low n) (nat_le n high) found.0 in
     let same = ok_same n m found.1 in
     subst (λ k. (low ≤ k) × (k ≤ high)) same (grind (arith, nat_tests), grind (arith, nat_tests))
 
 places_ok : (y z : ℤ) → in_places y ≡ Ok z → (negsuc 4095 ≤ℤ z) × (z ≤ℤ pos 4095)
 places_ok y z e =
     let found = cond_ok (int_le (negsuc 4095) y && int_le y (pos 4095)) (Ok y) _ z e in
-    let ends = both _ _ found.0 in
+    let ends = both (int_le (negsuc 4095) y) (int_le y (pos 4095)) found.0 in
     let same = ok_same y z found.1 in
-    subst (λ k. (negsuc 4095 ≤ℤ k) × (k ≤ℤ pos 4095)) same (ends.0, ends.1)
+    subst (λ k. (negsuc 4095 ≤ℤ k) × (k ≤ℤ pos 4095)) same (le_z_yes (T_from_true (int_le (negsuc 4095) y) ends.0), le_z_yes (T_from_true (int_le y (pos 4095)) ends.1))
 
 place_ok : (word : List ℕ) (z : ℤ) → place_of word ≡ Ok z → (negsuc 4095 ≤ℤ z) × (z ≤ℤ pos 4095)
 unfolding place_of
-place_ok word z e = let read = bind_ok _ in_places z e in places_ok read.0 z read.2
+place_ok word z e = let read = bind_ok (signed_of word) in_places z e in places_ok read.0 z read.2
 
 side_ok : (word : List ℕ) (n : ℕ) → side_of word ≡ Ok n → (1 ≤ n) × (n ≤ 4096)
 unfolding side_of
-side_ok word n e = let read = bind_ok _ (in_range 1 4096) n e in range_ok 1 4096 read.0 n read.2
+side_ok word n e = let read = bind_ok (number_of word) (in_range 1 4096) n e in range_ok 1 4096 read.0 n read.2
 
 layer_ok : (word : List ℕ) (n : ℕ) → layer_of word ≡ Ok n → n ≤ 1
 unfolding layer_of
-layer_ok word n e = let read = bind_ok _ (in_range 0 1) n e in (range_ok 0 1 read.0 n read.2).1
+layer_ok word n e = let read = bind_ok (number_of word) (in_range 0 1) n e in (range_ok 0 1 read.0 n read.2).1
 
 pub width_ok : (word : List ℕ) (n : ℕ) → width_of word ≡ Ok n → (1 ≤ n) × (n ≤ 640)
 unfolding width_of
-width_ok word n e = let read = bind_ok _ (in_range 1 640) n e in range_ok 1 640 read.0 n read.2
+width_ok word n e = let read = bind_ok (number_of word) (in_range 1 640) n e in range_ok 1 640 read.0 n read.2
 
 pub height_ok : (word : List ℕ) (n : ℕ) → height_of word ≡ Ok n → (1 ≤ n) × (n ≤ 480)
 unfolding height_of
-height_ok word n e = let read = bind_ok _ (in_range 1 480) n e in range_ok 1 480 read.0 n read.2
+height_ok word n e = let read = bind_ok (number_of word) (in_range 1 480) n e in range_ok 1 480 read.0 n read.2
 
 below_ok : (clients n client : ℕ) → below clients n ≡ Ok client → client < clients
 below_ok clients n client e =
@@ -94,7 +98,7 @@ below_ok clients n client e =
 
 client_ok : (clients : ℕ) (word : List ℕ) (client : ℕ) → client_of clients word ≡ Ok client → client < clients
 unfolding client_of
-client_ok clients word client e = let read = bind_ok _ (below clients) client e in below_ok clients read.0 client read.2
+client_ok clients word client e = let read = bind_ok (number_of word >>= in_range 0 65535) (below clients) client e in below_ok clients read.0 client read.2
 
 point_ok : (x y : List ℕ) (p : Point) → point_of x y ≡ Ok p → IsPlaced p
 unfolding point_of
@@ -139,7 +143,6 @@ create_ok (name ∷ layer ∷ []) call e =
     let parts = joined_ok (name_of name) (layer_of layer) read.0 read.1 in
     subst IsCall (ok_same (Create read.0.0 read.0.1) call read.2) (layer_ok layer read.0.1 parts.1)
 create_ok (name ∷ layer ∷ more ∷ words) call e = err_is_no_ok _ call e
-
 
 rects_ok : (words : List (List ℕ)) (rects : List Rect) → rects_of words ≡ Ok rects → All IsPlacedRect rects × (length rects ≤ 1)
 unfolding rects_of
@@ -236,7 +239,7 @@ calls_more clients calls text next e within =
       one_create = subst (λ (x : CallLine). length (filter test (calls ++ x ∷ [])) ≤ 1) step.0 (omega (arith, ap length (filter-append test calls (read.0 ∷ [])), length-append (filter test calls) (filter test (read.0 ∷ [])), step.1));
     }
 
-end_ok : {A : Type 0} (b : Bool) (calls all : List CallLine) → ◌≡◌ {A = Result (List CallLine) Cause} (cond b (Ok calls) (Err End)) (Ok all) → calls ≡ all
+end_ok : (b : Bool) (calls all : List CallLine) → ◌≡◌ {A = Result (List CallLine) Cause} (cond b (Ok calls) (Err End)) (Ok all) → calls ≡ all
 end_ok true calls all e = ok_same calls all e
 end_ok false calls all e = err_is_no_ok _ all e
 
@@ -265,6 +268,14 @@ clients_ok (kind ∷ word ∷ []) n e =
     let read = bind_ok (number_of word) (in_range 0 1) n found.1 in
     (range_ok 0 1 read.0 n read.2).1
 clients_ok (kind ∷ word ∷ more ∷ words) n e = err_is_no_ok _ n e
+
+pub head_ok : (depth : Depth) (first second : List (List ℕ)) (head : Head) → head_in depth first second ≡ Ok head → head.clients ≤ 1
+unfolding head_in
+head_ok depth first second head e =
+    let screen = bind_ok (screen_of first) _ head e in
+    let clients = bind_ok (clients_of second) _ head screen.2 in
+    let made : Head = record { depth = depth; size = screen.0.0; backdrop = screen.0.1; clients = clients.0 } in
+    subst (λ (h : Head). h.clients ≤ 1) (ok_same made head clients.2) (clients_ok second clients.0 clients.1)
 
 -- the size that two words make is one of a screen
 pub size_from : (w h : List ℕ) (sides : ℕ × ℕ) (o : Option Sides) → joined (width_of w) (height_of h) ≡ Ok sides → SomeIff o (IsScreen (record { w = sides.0; h = sides.1 })) (record { w = sides.0; h = sides.1 }) → ok_or o Range ≡ size_of w h

@@ -1,5 +1,5 @@
 -- Within which limits every session is.
-use Rattle.std.specs.Prelude.{ℕ, ◌≡◌, ◌<◌, ◌≤◌, ◌^◌, ℤ, All, List, length}
+use Rattle.std.specs.Prelude.{ℕ, ◌≡◌, ◌<◌, ◌≤◌, ◌^◌, All, List, length}
 use Rattle.std.specs.List.{filter}
 use Rattle.qws_base.specs.Sides.{IsScreen}
 use Rattle.qws_base.specs.Points.{IsPlaced}

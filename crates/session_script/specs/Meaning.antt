@@ -3,7 +3,6 @@ use Rattle.std.specs.Prelude.{ℕ, List, [], ◌∷◌, ◌++◌, if◌then◌el
 use Rattle.std.specs.Str.{bytes_eq}
 use Rattle.qws_base.specs.Histories.{Entry}
 use Rattle.qws_base.specs.Histories.Entry.{Step as StepEntry, Paint as PaintEntry}
-use Rattle.qws_base.specs.declared.commands.Command.{Command}
 use Rattle.qws_base.specs.declared.commands.Command.TheVariants.{Create as CreateCommand, Region as RegionCommand}
 use Rattle.qws_base.specs.declared.replies.Reply.{Reply}
 use Rattle.qws_base.specs.declared.replies.Reply.TheVariants.{Created, Done, Sent, Registered, Event, Refused}

@@ -1,5 +1,5 @@
 -- What a reader answers, where the bytes read as that.
-use Rattle.std.specs.Prelude.{ℕ, ◌≡◌, Result, Ok, Err, IsErr, ⊤}
+use Rattle.std.specs.Prelude.{◌≡◌, Result, Ok, Err, IsErr, ⊤}
 use Rattle.session_script.specs.Session.{Session}
 use Rattle.session_script.specs.declared.lines.Cause.{Cause}
 use Rattle.session_script.specs.declared.lines.Cause.TheVariants.{Form}

@@ -24,7 +24,10 @@ pub enum Kind {
 #[derive(Debug, Drop)]
 pub enum LineCall {
     /// `create NAME LAYER`
-    Create { name: Bytes, layer: u32 },
+    Create {
+        name: Bytes,
+        layer: u32,
+    },
     /// `region WIN OX OY` and groups `X Y W H`
     Region {
         window: Window,
@@ -32,7 +35,11 @@ pub enum LineCall {
         rects: Rects,
     },
     /// `fill WIN X Y W H INK`
-    Fill { window: Window, rect: Rect, ink: Ink },
+    Fill {
+        window: Window,
+        rect: Rect,
+        ink: Ink,
+    },
 }
 
 impl LineCall {

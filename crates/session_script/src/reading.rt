@@ -160,11 +160,7 @@ fn head(
 }
 
 // The script of a head and the calls behind it.
-fn script_at(
-    alloc: Global,
-    head: Head,
-    bytes: &[u8],
-) -> Result<Result<Script, Cause>, OutOfMemory>
+fn script_at(alloc: Global, head: Head, bytes: &[u8]) -> Result<Result<Script, Cause>, OutOfMemory>
     requires { head.clients ≤ 1 }
     ensures { IfOk result (λ read. read ≡ session_at head (lines_of bytes.now)) }
 {
@@ -195,10 +191,7 @@ fn script_of_depth(
 }
 
 /// The script that bytes spell, or the cause why they are none.
-pub(crate) fn script(
-    alloc: Global,
-    bytes: &[u8],
-) -> Result<Result<Script, Cause>, OutOfMemory>
+pub(crate) fn script(alloc: Global, bytes: &[u8]) -> Result<Result<Script, Cause>, OutOfMemory>
     ensures { IfOk result (λ read. read ≡ script_of bytes.now) }
 {
     let Some((first, rest)) = cut(bytes, b'\n') else {

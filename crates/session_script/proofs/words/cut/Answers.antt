@@ -1,4 +1,4 @@
-use Rattle.std.proofs.Common.{◌≡◌, ◌==◌, ◌∷◌, ◌+◌, ap, ◌∙◌, sym, arith, drop, length, subst, take, ℕ, List}
+use Rattle.std.proofs.Common.{◌==◌, ◌∷◌, ◌+◌, ap, ◌∙◌, sym, arith, length, take}
 use Rattle.std.specs.List.{slice_split}
 use Rattle.std.proofs.lemmas.List.{length-drop}
 use Rattle.session_script.proofs.Cuts.{cut_none, cut_some, cut_within, rest_of}

@@ -1,6 +1,6 @@
 use Rattle.std.proofs.Common.{arith, lit<, ◌∙◌}
 use Rattle.session_script.specs.Words.{is_digit}
-use Rattle.session_script.proofs.Digits.{read_none, read_digit, front_passes}
+use Rattle.session_script.proofs.Digits.{read_none, read_digit}
 use Rattle.session_script.proofs.words.decimal_value.Goals as goal
 
 pub loop-rest-init : goal.loop-rest-init

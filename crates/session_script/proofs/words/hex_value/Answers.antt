@@ -1,6 +1,6 @@
 use Rattle.std.proofs.Common.{arith, lit<, ◌∙◌, ◌<◌, ◌-◌, length}
 use Rattle.session_script.specs.Words.{is_hex}
-use Rattle.session_script.proofs.Digits.{read_none, read_digit, front_passes, few_digits}
+use Rattle.session_script.proofs.Digits.{read_none, read_digit, few_digits}
 use Rattle.session_script.proofs.words.hex_value.Goals as goal
 
 pub loop-rest-init : goal.loop-rest-init
