@@ -1,0 +1,188 @@
+//! The calls of a session, one at a time, over a core and a canvas.
+ghost use Rattle.std.specs.Prelude.{◌≡◌, ◌++◌, ◌+◌, ◌^◌, ℕ, Some, ◌<◌, IfOk, OnOk, string_bytes, length};
+ghost use Rattle.std.specs.Option.{option_map};
+ghost use Rattle.qws_base.specs.States.{is_refused, moved_slot, step};
+ghost use Rattle.qws_base.specs.Scenes.{Setting, scene_after_paint, paint_reply};
+ghost use Rattle.qws_base.specs.Windows.{layout_of};
+ghost use Rattle.qws_base.specs.Histories.{World, scene_after};
+ghost use Rattle.gfx_painters.specs.Paints.{paint_sheet};
+ghost use Rattle.window_core.specs.CoreViews.{Belongs, IsPlannable};
+ghost use Rattle.session_script.specs.Session.{lines_by, call_line};
+ghost use Rattle.qws_demo.specs.Runs.{entry_in};
+ghost use Rattle.qws_demo.specs.Texts.{comment, ended};
+ghost use Rattle.qws_demo.specs.Steps.{answer_of, answer_words, PrintsAnswer, learned_by_answer, IsMakeable, IsNextWorld};
+
+use crate::answers::Answer;
+use crate::callers::Caller;
+use crate::texts::{paint_text, push_comment, reply_text};
+use gfx_painters::Paint;
+use pixel_model::Canvas;
+use qws_base::{Command, OutOfMemory, PaintReply, Reply};
+use session_script::{Call, Names, Script};
+use std::alloc::{AllocError, Global};
+use window_core::{Core, Plan};
+
+// The slot that a command moves.
+fn slot_moved(command: &Command) -> Option<u32>
+    ensures { result ≡ moved_slot command.now }
+{
+    match command {
+        Command::Move { slot, origin: _ } => Some(*slot),
+        _ => None,
+    }
+}
+
+// Whether a plan is refused.
+fn is_refusal(plan: &Plan) -> bool
+    ensures { result ≡ is_refused plan.now.reply }
+{
+    matches!(plan.reply(), Reply::Refused { cause: _ })
+}
+
+// Shows a planned step on the canvas, before it is committed.
+fn show_step(core: &Core, canvas: &mut Canvas, command: &Command, plan: &Plan)
+    requires size { canvas.old.setting.size ≡ core.now.size }
+    requires belongs { Belongs plan.now core.now.state }
+    requires command { plan.now.command ≡ command.now }
+    ensures setting { canvas.new.setting ≡ canvas.old.setting }
+    ensures scene { let world : World = record { state = core.now.state; scene = canvas.old.scene } in
+        canvas.new.scene ≡ scene_after canvas.old.setting world command.now (step core.now.state plan.now.client command.now) }
+{
+    if !is_refusal(plan) {
+        canvas.apply_step(core.windows(), plan.windows(), slot_moved(command));
+    }
+}
+
+// A command of a client.
+fn make_step(
+    alloc: Global,
+    core: &mut Core,
+    canvas: &mut Canvas,
+    client: u32,
+    command: &Command,
+) -> Result<Reply, OutOfMemory>
+    requires client { client ≡ 0 }
+    requires command { IsPlannable core.old.state command.now }
+    requires size { canvas.old.setting.size ≡ core.old.size }
+    ensures size { core.new.size ≡ core.old.size }
+    ensures setting { canvas.new.setting ≡ canvas.old.setting }
+    ensures state { OnOk result (core.new.state ≡ (step core.old.state client command.now).0) }
+    ensures scene { let world : World = record { state = core.old.state; scene = canvas.old.scene } in
+        OnOk result (canvas.new.scene ≡ scene_after canvas.old.setting world command.now (step core.old.state client command.now)) }
+    ensures reply { IfOk result (λ reply. reply ≡ (step core.old.state client command.now).1) }
+{
+    let plan = core.plan(alloc, client, command)?;
+    show_step(core, canvas, command, &plan);
+    let (_, reply) = core.commit(plan);
+    Ok(reply)
+}
+
+// A paint of a client.
+fn make_paint(
+    core: &Core,
+    canvas: &mut Canvas,
+    client: u32,
+    slot: u32,
+    paint: &Paint,
+) -> PaintReply
+    requires size { canvas.old.setting.size ≡ core.now.size }
+    ensures setting { canvas.new.setting ≡ canvas.old.setting }
+    ensures scene { canvas.new.scene ≡ scene_after_paint canvas.old.setting (layout_of canvas.old.setting.size core.now.state.windows) client slot (paint_sheet paint.now) canvas.old.scene }
+    ensures reply { result ≡ paint_reply canvas.old.setting.size (layout_of canvas.old.setting.size core.now.state.windows) client slot (paint_sheet paint.now) }
+{
+    canvas.apply_paint(core.windows(), client, slot, paint)
+}
+
+/// Makes a call of a client: the core and the canvas are the world after it, and the answer is the world's.
+pub fn make_call(
+    alloc: Global,
+    core: &mut Core,
+    canvas: &mut Canvas,
+    client: u32,
+    call: &Call,
+) -> Result<Answer, OutOfMemory>
+    requires client { client ≡ 0 }
+    requires call { IsMakeable core.old.state call.now }
+    requires size { canvas.old.setting.size ≡ core.old.size }
+    ensures size { core.new.size ≡ core.old.size }
+    ensures setting { canvas.new.setting ≡ canvas.old.setting }
+    ensures world { let world : World = record { state = core.old.state; scene = canvas.old.scene } in
+        OnOk result ((k : ℕ) → IsNextWorld canvas.old.setting world (entry_in canvas.old.setting world client k call.now) core.new.state canvas.new.scene) }
+    ensures answer { let world : World = record { state = core.old.state; scene = canvas.old.scene } in
+        IfOk result (λ answer. (k : ℕ) → answer ≡ answer_of (entry_in canvas.old.setting world client k call.now)) }
+{
+    match call {
+        Call::Step { command } => {
+            let reply = make_step(alloc, core, canvas, client, command)?;
+            Ok(Answer::Step { reply })
+        }
+        Call::Paint { slot, paint } => {
+            let reply = make_paint(core, canvas, client, *slot, paint);
+            Ok(Answer::Paint { reply })
+        }
+    }
+}
+
+// The words of an answer.
+fn answer_text(alloc: Global, answer: &Answer) -> Result<String, AllocError>
+    ensures words { IfOk result (λ text. string_bytes text ≡ answer_words answer.now) }
+    ensures prints { PrintsAnswer answer.now }
+{
+    match answer {
+        Answer::Step { reply } => reply_text(alloc, reply),
+        Answer::Paint { reply } => paint_text(alloc, *reply),
+    }
+}
+
+/// Adds the comment of a call.
+pub fn note(
+    alloc: Global,
+    text: &mut Vec<u8>,
+    client: u32,
+    number: u64,
+    answer: &Answer,
+) -> Result<(), OutOfMemory>
+    ensures text { OnOk result (text.new.items ≡ text.old.items ++ ended (comment client number (answer_words answer.now))) }
+    ensures prints { OnOk result (PrintsAnswer answer.now) }
+{
+    let words = answer_text(alloc, answer)?;
+    push_comment(alloc, text, client, number, &words)?;
+    Ok(())
+}
+
+// What the answer to a client's call `k` teaches.
+fn learn_names(
+    alloc: Global,
+    script: &Script,
+    names: &mut Names,
+    k: u64,
+    answer: &Answer,
+) -> Result<(), OutOfMemory>
+    requires { k < length (lines_by script.now names.old.client) }
+    ensures client { names.new.client ≡ names.old.client }
+    ensures places { OnOk result (option_map (λ line. learned_by_answer names.old.places line.call answer.now) (call_line script.now names.old.client k) ≡ Some names.new.places) }
+{
+    match answer {
+        Answer::Step { reply } => names.learn(alloc, script, k, reply),
+        Answer::Paint { reply: _ } => Ok(()),
+    }
+}
+
+/// A client learns what its next call was answered.
+pub fn learn(
+    alloc: Global,
+    script: &Script,
+    caller: &mut Caller,
+    answer: &Answer,
+) -> Result<(), OutOfMemory>
+    requires call { caller.old.made < length (lines_by script.now caller.old.names.client) }
+    requires few { caller.old.made + 1 < 2 ^ 64 }
+    ensures client { caller.new.names.client ≡ caller.old.names.client }
+    ensures made { OnOk result (caller.new.made ≡ caller.old.made + 1) }
+    ensures places { OnOk result (option_map (λ line. learned_by_answer caller.old.names.places line.call answer.now) (call_line script.now caller.old.names.client caller.old.made) ≡ Some caller.new.names.places) }
+{
+    let made = caller.made;
+    learn_names(alloc, script, &mut caller.names, made, answer)?;
+    caller.made = made + 1;
+    Ok(())
+}
