@@ -1,0 +1,4 @@
+pub mod ListLemmas
+pub mod Spanning
+pub mod SameSpans
+pub mod Uniqueness

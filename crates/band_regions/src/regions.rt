@@ -1,0 +1,146 @@
+//! A set of pixels as its canonical list of rectangles.
+ghost use Rattle.std.specs.Prelude.{◌≡◌, ◌&&◌, ◌||◌, not, IfOk, All, map};
+ghost use Rattle.qws_base.specs.Points.{holds, any_holds, minus};
+ghost use Rattle.qws_base.specs.Regions.{IsCanonical, IsRegionOf};
+ghost use Rattle.qws_base.specs.declared.points.Point.{Point};
+ghost use Rattle.band_regions.specs.Ranges.{IsInRange, IsShiftable, shift_of, is_before};
+
+use crate::operations::Operation;
+use crate::sweeps::sweep;
+use qws_base::{OutOfMemory, Point, Rect};
+use std::alloc::Global;
+use std::marker::Model;
+
+/// A set of pixels, seen as its canonical list of rectangles: bands from the top, in a band its spans from the left. Their
+/// corners are in -32,768..32,767, and their right and bottom ends are at most 32,768.
+#[derive(Debug, Drop)]
+pub struct Region {
+    rects: Vec<Rect>,
+}
+
+impl Model for Region {
+    ghost use Rattle.std.specs.Prelude.{List};
+    ghost use Rattle.qws_base.specs.declared.points.Rect.{Rect};
+    ghost use Rattle.band_regions.specs.Ranges.{IsKept};
+
+    ghost Value = { List Rect };
+
+    ghost view = { λ r. r.rects.items };
+
+    ghost invariant = { λ r. IsKept r.rects.items };
+}
+
+impl Region {
+    /// The pixels of all the rectangles. One without width or height adds nothing.
+    pub fn of_rects(alloc: Global, rects: &[Rect]) -> Result<Region, OutOfMemory>
+        requires { All IsInRange rects.now }
+        ensures { IfOk result (λ region. IsRegionOf region (any_holds rects.now)) }
+    {
+        match rects {
+            [] => Ok(Region {
+                rects: Vec::new(alloc),
+            }),
+            [rect] => Region::of_rect(alloc, rect),
+            _ => {
+                let half = rects.len() / 2;
+                let first = Region::of_rects(alloc, &rects[..half])?;
+                let second = Region::of_rects(alloc, &rects[half..])?;
+                first.unite(alloc, &second)
+            }
+        }
+    }
+
+    /// The pixels of one rectangle.
+    fn of_rect(alloc: Global, rect: &Rect) -> Result<Region, OutOfMemory>
+        requires { IsInRange rect.now }
+        ensures { IfOk result (λ region. IsRegionOf region (holds rect.now)) }
+    {
+        let mut rects = Vec::new(alloc);
+        if rect.w > 0 && rect.h > 0 {
+            rects.push(*rect)?;
+        }
+        Ok(Region { rects })
+    }
+
+    /// The pixels that are in one of the two.
+    pub fn unite(&self, alloc: Global, other: &Region) -> Result<Region, OutOfMemory>
+        ensures { IfOk result (λ region. IsRegionOf region (λ p. any_holds self.now p || any_holds other.now p)) }
+    {
+        Ok(Region {
+            rects: sweep(alloc, Operation::Unite, &self.rects, &other.rects)?,
+        })
+    }
+
+    /// The pixels that are in both.
+    pub fn meet(&self, alloc: Global, other: &Region) -> Result<Region, OutOfMemory>
+        ensures { IfOk result (λ region. IsRegionOf region (λ p. any_holds self.now p && any_holds other.now p)) }
+    {
+        Ok(Region {
+            rects: sweep(alloc, Operation::Meet, &self.rects, &other.rects)?,
+        })
+    }
+
+    /// The pixels that are in this and not in the other.
+    pub fn minus(&self, alloc: Global, other: &Region) -> Result<Region, OutOfMemory>
+        ensures { IfOk result (λ region. IsRegionOf region (λ p. any_holds self.now p && not (any_holds other.now p))) }
+    {
+        Ok(Region {
+            rects: sweep(alloc, Operation::Minus, &self.rects, &other.rects)?,
+        })
+    }
+
+    /// The pixels moved by so many columns to the right and rows down.
+    pub fn shift(&self, alloc: Global, dx: i32, dy: i32) -> Result<Region, OutOfMemory>
+        requires { All (IsShiftable dx dy) self.now }
+        ensures { IfOk result (λ region. IsRegionOf region (λ p. any_holds self.now (minus p (shift_of dx dy)))) }
+    {
+        let mut rects = Vec::new(alloc);
+        for rect in &self.rects {
+            rects.push(Rect {
+                x: rect.x + dx,
+                y: rect.y + dy,
+                w: rect.w,
+                h: rect.h,
+            })?;
+        }
+        Ok(Region { rects })
+    }
+
+    /// An equal region.
+    pub fn copy(&self, alloc: Global) -> Result<Region, OutOfMemory>
+        ensures { IfOk result (λ region. region ≡ self.now) }
+    {
+        Ok(Region {
+            rects: self.rects.to_vec(alloc)?,
+        })
+    }
+
+    /// Whether the point is in the region.
+    pub fn holds(&self, p: Point) -> bool
+        ensures { result ≡ any_holds self.now p }
+    {
+        let k = self.rects.partition_point(|rect| lies_before(rect, p));
+        match self.rects.get(k) {
+            None => false,
+            Some(rect) => rect.x <= p.x && rect.y <= p.y,
+        }
+    }
+
+    /// The canonical list.
+    pub fn rects(&self) -> &[Rect]
+        ensures value { result.now ≡ self.now }
+        ensures canonical { IsCanonical self.now }
+        ensures in_range { All IsInRange self.now }
+    {
+        &self.rects
+    }
+}
+
+/// Whether all points of the rectangle that are in the point's row or below it are to its left.
+fn lies_before(rect: &Rect, p: Point) -> bool
+    ensures { result ≡ is_before rect.now p }
+{
+    let right = i64::from(rect.x) + i64::from(rect.w);
+    let bottom = i64::from(rect.y) + i64::from(rect.h);
+    bottom <= i64::from(p.y) || (rect.y <= p.y && right <= i64::from(p.x))
+}
