@@ -19,17 +19,17 @@ pub none_left : (c : ℤ) (xs : List Rect) → Each (λ s. c <ℤ s.x) xs → ha
 none_left c xs h = any_none (λ r. spans r.x r.w c) xs (each_weaker (λ s. c <ℤ s.x) (λ s. spans s.x s.w c ≡ false) (λ s k. not_before s.x c s.w k) xs h)
 
 -- nor one of the first span or left of it among the others
-none_later : (r : Rect) (xs : List Rect) (c : ℤ) → Each (IsLeftOf r) xs → c ≤ℤ right r → has_column xs c ≡ false
+pub none_later : (r : Rect) (xs : List Rect) (c : ℤ) → Each (IsLeftOf r) xs → c ≤ℤ right r → has_column xs c ≡ false
 none_later r xs c h k = none_left c xs (each_weaker (IsLeftOf r) (λ s. c <ℤ s.x) (λ s l. grind (arith, ints)) xs h)
 
-starts : (r : Rect) → IsWide r → spans r.x r.w r.x ≡ true
+pub starts : (r : Rect) → IsWide r → spans r.x r.w r.x ≡ true
 starts r h = spans_from r.x r.x r.w (omega (arith, ints)) (omega (arith, ints))
 
 begins : (r : Rect) (rs : List Rect) → IsWide r → has_column (r ∷ rs) r.x ≡ true
 begins r rs h = ap (λ b. b || has_column rs r.x) (starts r h)
 
 -- nothing is at the left of the first span, nor at its right end
-nothing_before : (r : Rect) (rs : List Rect) (c : ℤ) → Each (IsLeftOf r) rs → c <ℤ r.x → has_column (r ∷ rs) c ≡ false
+pub nothing_before : (r : Rect) (rs : List Rect) (c : ℤ) → Each (IsLeftOf r) rs → c <ℤ r.x → has_column (r ∷ rs) c ≡ false
 nothing_before r rs c h k = ap (λ b. b || has_column rs c) (not_before r.x c r.w k) ∙ none_later r rs c h (omega (arith, ints))
 
 nothing_after : (r : Rect) (rs : List Rect) → Each (IsLeftOf r) rs → has_column (r ∷ rs) (right r) ≡ false

@@ -1,5 +1,5 @@
 -- Rows: spans of columns from the left. Of a rectangle only its columns count here.
-use Rattle.std.specs.Prelude.{ℕ, ◌≡◌, ◌<◌, ℤ, pos, negsuc, ◌<ℤ◌, ◌≤ℤ◌, int_le, int_lt, Bool, ◌&&◌, List, All, AllPairs}
+use Rattle.std.specs.Prelude.{ℕ, ◌≡◌, ◌<◌, ◌-◌, ℤ, pos, negsuc, ◌<ℤ◌, ◌≤ℤ◌, int_le, int_lt, Bool, ◌&&◌, List, length, slice_index_or, All, AllPairs}
 use Rattle.std.specs.List.{list_any}
 use Rattle.qws_base.specs.Points.{spans}
 use Rattle.qws_base.specs.Regions.{right}
@@ -32,6 +32,17 @@ EndsRightOf x r = x <ℤ right r
 abbrev pub ReachesRight : ℤ → Rect → Type 0
 ReachesRight x r = x ≤ℤ right r
 
+abbrev pub EndsLeftOf : ℤ → Rect → Type 0
+EndsLeftOf x r = right r <ℤ x
+
+abbrev pub ReachesAtMost : ℤ → Rect → Type 0
+ReachesAtMost x r = right r ≤ℤ x
+
+-- there is a last span, and it ends at the column
+pub record LastEndsAt (x : ℤ) (rects : List Rect) : Type 0 where
+  pub some : 0 < length rects
+  pub at_end : (d : Rect) → right (slice_index_or rects (length rects - 1) d) ≡ x
+
 -- the rest has the columns of the row from x on, and no span of it ends before
 pub record IsRestOfRow (x : ℤ) (row rest : List Rect) : Type 0 where
   pub is_row : IsRow rest
@@ -50,4 +61,4 @@ pub record IsBand (top : ℤ) (height : ℕ) (rects : List Rect) : Type 0 where
 -- a band that ends at the column x or before
 pub record IsBandUpTo (x top : ℤ) (height : ℕ) (rects : List Rect) : Type 0 where
   pub is_band : IsBand top height rects
-  pub behind : All (λ r. right r ≤ℤ x) rects
+  pub behind : All (ReachesAtMost x) rects

@@ -1,8 +1,9 @@
 //! One row of spans: the operations on two rows, by one sweep over the columns at which their spans begin and end.
-ghost use Rattle.std.specs.Prelude.{◌≡◌, ◌<◌, ◌+◌, ℕ, ℤ, pos, negsuc, ◌+ℤ◌, ◌<ℤ◌, ◌≤ℤ◌, ◌||◌, [], All, OnOk};
+ghost use Rattle.std.specs.Prelude.{◌≡◌, ◌<◌, ◌+◌, ℕ, ℤ, pos, negsuc, ◌+ℤ◌, ◌<ℤ◌, ◌≤ℤ◌, ◌||◌, All, OnOk};
+ghost use Rattle.std.specs.Bool.{OnTrue, OnFalse};
 ghost use Rattle.qws_base.specs.Regions.{right};
 ghost use Rattle.band_regions.specs.Operations.{keeps};
-ghost use Rattle.band_regions.specs.Rows.{IsSpan, IsRow, IsBand, IsBandUpTo, IsRestOfRow, EndsRightOf, ReachesRight, has_column, is_between};
+ghost use Rattle.band_regions.specs.Rows.{IsSpan, IsRow, IsBand, IsBandUpTo, IsRestOfRow, EndsRightOf, ReachesRight, ReachesAtMost, EndsLeftOf, LastEndsAt, has_column, is_between};
 
 use crate::operations::Operation;
 use qws_base::{OutOfMemory, Rect};
@@ -67,6 +68,19 @@ fn past_column(row: &[Rect], column: i32) -> &[Rect]
     }
 }
 
+/// Whether the last span ends at the column, which no span goes past.
+fn touches(row: &[Rect], column: i32) -> bool
+    requires is_row { IsRow row.now }
+    requires behind { All (ReachesAtMost column) row.now }
+    ensures apart { OnFalse result (All (EndsLeftOf column) row.now) }
+    ensures touching { OnTrue result (LastEndsAt column row.now) }
+{
+    match row {
+        [] => false,
+        [.., last] => right_end(last) == column,
+    }
+}
+
 /// Appends the columns to a band that ends where they begin, or before.
 fn push_span(
     band: &mut Vec<Rect>,
@@ -83,9 +97,9 @@ fn push_span(
     ensures columns { OnOk result ((c : ℤ) → has_column band.new.items c ≡ (has_column band.old.items c || is_between from to c)) }
 {
     let w = (to - from) as u32;
-    let n = band.len();
-    if n > 0 && right_end(&band[n - 1]) == from {
-        band[n - 1].w += w;
+    if touches(band, from) {
+        let last = band.len() - 1;
+        band[last].w += w;
         return Ok(());
     }
     band.push(Rect {
