@@ -5,3 +5,5 @@ pub mod Uniqueness
 pub mod RowLemmas
 pub mod RowEnds
 pub mod RowSweep
+pub mod BandLemmas
+pub mod BandEnds

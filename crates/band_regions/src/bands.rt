@@ -1,5 +1,5 @@
 //! The bands of a list of rectangles, from the top, and a list that grows by bands at its end.
-ghost use Rattle.std.specs.Prelude.{◌≡◌, ◌≤◌, ◌<◌, ◌+◌, ℕ, ℤ, pos, negsuc, ◌+ℤ◌, ◌<ℤ◌, ◌≤ℤ◌, ◌||◌, ◌^◌, ◌++◌, All, IfOk, IsTrue, ◌↔◌, length, map, take, drop};
+ghost use Rattle.std.specs.Prelude.{◌≡◌, ◌≤◌, ◌<◌, ◌+◌, ℕ, ℤ, pos, negsuc, ◌+ℤ◌, ◌<ℤ◌, ◌≤ℤ◌, ◌||◌, ◌^◌, ◌++◌, All, IfOk, IsTrue, ◌↔◌, length, map, take, drop, vec_len};
 ghost use Rattle.qws_base.specs.Points.{any_holds};
 ghost use Rattle.qws_base.specs.Regions.{bottom, span_of};
 ghost use Rattle.qws_base.specs.declared.points.Point.{Point};
@@ -63,8 +63,14 @@ pub fn row_at(rects: &[Rect], row: i32) -> &[Rect]
     ensures columns { (p : Point) → has_column result.now p.x ≡ any_holds rects.now (in_row row p) }
 {
     match rects {
-        [rect, ..] if rect.y <= row => &rects[..band_len(rects, rect.y)],
-        _ => &[],
+        [] => &[],
+        [rect, ..] => {
+            if rect.y <= row {
+                &rects[..band_len(rects, rect.y)]
+            } else {
+                &[]
+            }
+        }
     }
 }
 
@@ -84,12 +90,21 @@ pub fn past_row(rects: &[Rect], row: i32) -> &[Rect]
 fn has_same_spans(first: &[Rect], second: &[Rect]) -> bool
     ensures { IsTrue result ↔ (map span_of first.now ≡ map span_of second.now) }
 {
-    first.len() == second.len() && first.iter().zip(second).all(|(r, s)| r.x == s.x && r.w == s.w)
+    if first.len() != second.len() {
+        return false;
+    }
+    for (i, r) in first.iter().enumerate() {
+        let s = &second[i];
+        if r.x != s.x || r.w != s.w {
+            return false;
+        }
+    }
+    true
 }
 
-/// Makes the bands from a place on higher by some rows.
+/// Makes the rectangles from a place on higher by some rows.
 fn extend_down(rects: &mut Vec<Rect>, last: usize, height: u32)
-    requires last { last ≤ length rects.old.items }
+    requires within { last ≤ vec_len rects.old }
     requires fits { All (λ r. r.h + height < 2 ^ 32) (drop last rects.old.items) }
     ensures { rects.new.items ≡ take last rects.old.items ++ map (taller height) (drop last rects.old.items) }
 {
