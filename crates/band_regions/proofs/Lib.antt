@@ -7,3 +7,4 @@ pub mod RowEnds
 pub mod RowSweep
 pub mod BandLemmas
 pub mod BandEnds
+pub mod BandSweep

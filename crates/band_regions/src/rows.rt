@@ -14,6 +14,16 @@ pub const FIRST: i32 = -32768;
 /// One past the last column and the last row.
 pub const END: i32 = 32768;
 
+/// How many columns, or rows, there are from the first up to the second.
+pub fn distance(from: i32, to: i32) -> u32
+    requires ordered { from ≤ℤ to }
+    requires low { negsuc 32767 ≤ℤ from }
+    requires high { to ≤ℤ pos 32768 }
+    ensures { (from +ℤ pos result) ≡ to }
+{
+    (to - from) as u32
+}
+
 /// One past the last column of a span.
 fn right_end(span: &Rect) -> i32
     requires { IsSpan span.now }
@@ -96,7 +106,7 @@ fn push_span(
     ensures band { OnOk result (IsBandUpTo to top height band.new.items) }
     ensures columns { OnOk result ((c : ℤ) → has_column band.new.items c ≡ (has_column band.old.items c || is_between from to c)) }
 {
-    let w = (to - from) as u32;
+    let w = distance(from, to);
     if touches(band, from) {
         let last = band.len() - 1;
         band[last].w += w;

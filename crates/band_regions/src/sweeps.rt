@@ -8,7 +8,7 @@ ghost use Rattle.band_regions.specs.Bands.{IsBanded};
 
 use crate::bands::{close_band, next_row, past_row, row_at};
 use crate::operations::Operation;
-use crate::rows::{FIRST, combine};
+use crate::rows::{FIRST, combine, distance};
 use qws_base::{OutOfMemory, Rect};
 use std::alloc::Global;
 
@@ -33,7 +33,7 @@ pub fn sweep(
     let mut y = FIRST;
     while !first.is_empty() || !second.is_empty() {
         let next = next_row(first, y).min(next_row(second, y));
-        let height = (next - y) as u32;
+        let height = distance(y, next);
         combine(&mut band, operation, row_at(first, y), row_at(second, y), y, height)?;
         last = close_band(&mut rects, last, &band, y, height)?;
         first = past_row(first, next);
