@@ -8,3 +8,4 @@ pub mod RowSweep
 pub mod BandLemmas
 pub mod BandEnds
 pub mod BandSweep
+pub mod RegionLemmas

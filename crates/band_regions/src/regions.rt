@@ -1,5 +1,5 @@
 //! A set of pixels as its canonical list of rectangles.
-ghost use Rattle.std.specs.Prelude.{◌≡◌, ◌&&◌, ◌||◌, not, IfOk, All, map};
+ghost use Rattle.std.specs.Prelude.{◌≡◌, ◌&&◌, ◌||◌, not, pos, ◌+ℤ◌, int_le, IfOk, All};
 ghost use Rattle.qws_base.specs.Points.{holds, any_holds, minus};
 ghost use Rattle.qws_base.specs.Regions.{IsCanonical, IsRegionOf};
 ghost use Rattle.qws_base.specs.declared.points.Point.{Point};
@@ -56,9 +56,10 @@ impl Region {
         ensures { IfOk result (λ region. IsRegionOf region (holds rect.now)) }
     {
         let mut rects = Vec::new(alloc);
-        if rect.w > 0 && rect.h > 0 {
-            rects.push(*rect)?;
+        if rect.w == 0 || rect.h == 0 {
+            return Ok(Region { rects });
         }
+        rects.push(*rect)?;
         Ok(Region { rects })
     }
 
@@ -122,7 +123,7 @@ impl Region {
         let k = self.rects.partition_point(|rect| lies_before(rect, p));
         match self.rects.get(k) {
             None => false,
-            Some(rect) => rect.x <= p.x && rect.y <= p.y,
+            Some(rect) => starts_by(rect, p),
         }
     }
 
@@ -136,11 +137,23 @@ impl Region {
     }
 }
 
+/// Whether so many places from a start on end at the place, or before it.
+fn ends_by(start: i32, count: u32, place: i32) -> bool
+    ensures { result ≡ int_le (start +ℤ pos count) place }
+{
+    i64::from(start) + i64::from(count) <= i64::from(place)
+}
+
 /// Whether all points of the rectangle that are in the point's row or below it are to its left.
 fn lies_before(rect: &Rect, p: Point) -> bool
     ensures { result ≡ is_before rect.now p }
 {
-    let right = i64::from(rect.x) + i64::from(rect.w);
-    let bottom = i64::from(rect.y) + i64::from(rect.h);
-    bottom <= i64::from(p.y) || (rect.y <= p.y && right <= i64::from(p.x))
+    ends_by(rect.y, rect.h, p.y) || (rect.y <= p.y && ends_by(rect.x, rect.w, p.x))
+}
+
+/// Whether the rectangle starts in the point's row or above, and in its column or to its left.
+fn starts_by(rect: &Rect, p: Point) -> bool
+    ensures { result ≡ (int_le rect.now.x p.x && int_le rect.now.y p.y) }
+{
+    rect.x <= p.x && rect.y <= p.y
 }
