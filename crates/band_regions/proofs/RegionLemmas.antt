@@ -237,3 +237,9 @@ one_found rects p k r kept h l it =
       let x = to_le r.x p.x parts.0 in
       let y = to_le r.y p.y parts.1 in
       and_from (spans r.x r.w p.x) (spans r.y r.h p.y) (spans_from r.x p.x r.w x (past_it (right r) p.x (λ m. column_before r p y m))) (spans_from r.y p.y r.h y (past_it (bottom r) p.y (λ m. row_before r p m)))
+
+-- the moved list of a region's list
+pub moved_region : (d : Point) (xs ys now : List Rect) → ys ≡ map (shifted d) xs → xs ≡ now → IsKept xs → All (λ r. IsInRange (shifted d r)) now → IsKept ys × IsRegionOf ys (λ p. any_holds now (minus p d))
+moved_region d xs ys now e f h k =
+    let kept : IsKept ys = subst IsKept (sym e) (kept_moved d xs h (subst (All (λ r. IsInRange (shifted d r))) (sym f) k)) in
+    (kept, record { canonical = kept.canonical; points = λ p. ap (λ zs. any_holds zs p) e ∙ points_moved d xs p ∙ ap (λ zs. any_holds zs (minus p d)) f })

@@ -1,6 +1,6 @@
 //! A set of pixels as its canonical list of rectangles.
 ghost use Rattle.std.specs.Prelude.{◌≡◌, ◌&&◌, ◌||◌, not, pos, ◌+ℤ◌, int_le, IfOk, All};
-ghost use Rattle.qws_base.specs.Points.{holds, any_holds, minus};
+ghost use Rattle.qws_base.specs.Points.{holds, any_holds, minus, shifted};
 ghost use Rattle.qws_base.specs.Regions.{IsCanonical, IsRegionOf};
 ghost use Rattle.qws_base.specs.declared.points.Point.{Point};
 ghost use Rattle.band_regions.specs.Ranges.{IsInRange, IsShiftable, shift_of, is_before};
@@ -97,12 +97,7 @@ impl Region {
     {
         let mut rects = Vec::new(alloc);
         for rect in &self.rects {
-            rects.push(Rect {
-                x: rect.x + dx,
-                y: rect.y + dy,
-                w: rect.w,
-                h: rect.h,
-            })?;
+            rects.push(moved(rect, dx, dy))?;
         }
         Ok(Region { rects })
     }
@@ -134,6 +129,20 @@ impl Region {
         ensures in_range { All IsInRange self.now }
     {
         &self.rects
+    }
+}
+
+/// The rectangle moved by so many columns to the right and rows down.
+fn moved(rect: &Rect, dx: i32, dy: i32) -> Rect
+    requires rect { IsInRange rect.now }
+    requires moved { IsShiftable dx dy rect.now }
+    ensures { result ≡ shifted (shift_of dx dy) rect.now }
+{
+    Rect {
+        x: dx + rect.x,
+        y: dy + rect.y,
+        w: rect.w,
+        h: rect.h,
     }
 }
 
