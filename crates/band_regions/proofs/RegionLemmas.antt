@@ -243,3 +243,18 @@ pub moved_region : (d : Point) (xs ys now : List Rect) → ys ≡ map (shifted d
 moved_region d xs ys now e f h k =
     let kept : IsKept ys = subst IsKept (sym e) (kept_moved d xs h (subst (All (λ r. IsInRange (shifted d r))) (sym f) k)) in
     (kept, record { canonical = kept.canonical; points = λ p. ap (λ zs. any_holds zs p) e ∙ points_moved d xs p ∙ ap (λ zs. any_holds zs (minus p d)) f })
+
+-- ---- many rectangles
+
+pub region_single : (rects region : List Rect) (d : Rect) → length rects ≡ 1 → IsRegionOf region (holds (get_or rects 0 d)) → IsRegionOf region (any_holds rects)
+region_single [] region d n h = absurd (omega arith)
+region_single (r ∷ []) region d n h = record { canonical = h.canonical; points = λ p. h.points p ∙ sym (or_false (holds r p)) }
+region_single (r ∷ s ∷ rs) region d n h = absurd (omega arith)
+
+pub region_split : (n : ℕ) (rects first second region : List Rect) → IsRegionOf first (any_holds (take n rects)) → IsRegionOf second (any_holds (drop n rects)) → IsRegionOf region (λ p. any_holds first p || any_holds second p) → IsRegionOf region (any_holds rects)
+region_split n rects first second region h k j = record {
+  canonical = j.canonical;
+  points = λ p. j.points p
+    ∙ ap (λ b. b || any_holds second p) (h.points p) ∙ ap (λ b. any_holds (take n rects) p || b) (k.points p)
+    ∙ sym (list_any-append (λ r. holds r p) (take n rects) (drop n rects)) ∙ ap (λ xs. any_holds xs p) (take-append-drop n rects);
+}

@@ -40,12 +40,16 @@ impl Region {
             [] => Ok(Region {
                 rects: Vec::new(alloc),
             }),
-            [rect] => Region::of_rect(alloc, rect),
+            [rect] => {
+                let region = Region::of_rect(alloc, rect)?;
+                Ok(region)
+            }
             _ => {
                 let half = rects.len() / 2;
                 let first = Region::of_rects(alloc, &rects[..half])?;
                 let second = Region::of_rects(alloc, &rects[half..])?;
-                first.unite(alloc, &second)
+                let region = first.unite(alloc, &second)?;
+                Ok(region)
             }
         }
     }
