@@ -1,21 +1,21 @@
 -- A list of bands that grows at its end: by a new band, or by rows of the last one.
-use Rattle.std.proofs.Common.{◌≡◌, ℕ, ◌+◌, ◌-◌, ◌<◌, ◌≤◌, zero, suc, Bool, true, false, cond, ◌||◌, ◌&&◌, ◌⊎◌, List, [], ◌∷◌, ◌++◌, length, get_or, set, map, take, drop, refl, sym, ap, ◌∙◌, subst, inl, inr, arith, append_assoc}
-use Rattle.std.specs.Prelude.{ℤ, pos, negsuc, ◌+ℤ◌, ◌<ℤ◌, ◌≤ℤ◌, int_le, int_lt}
-use Rattle.std.specs.List.{All, AllPairs, AllByRecursion as Each, list_any, filter}
+use Rattle.std.proofs.Common.{◌≡◌, ℕ, ◌+◌, ◌-◌, ◌<◌, ◌≤◌, Bool, true, false, cond, ◌||◌, ◌&&◌, ◌⊎◌, List, [], ◌∷◌, ◌++◌, length, get_or, set, map, take, drop, refl, sym, ap, ◌∙◌, subst, inl, inr, arith, append_assoc}
+use Rattle.std.specs.Prelude.{ℤ, pos, negsuc, ◌+ℤ◌, ◌<ℤ◌, ◌≤ℤ◌}
+use Rattle.std.specs.List.{AllByRecursion as Each, filter}
 use Rattle.std.specs.Ordering.{int_eq}
 use Rattle.std.proofs.lemmas.Int.{ints, by_lt_z}
-use Rattle.std.proofs.lemmas.List.{take-append-drop, drop_more, take_at, drop_at, take_all, drop_all, set_at, get_or_at, map_more, get_or-map, map-append, length-append, length-map, length-take-le, append-nil}
+use Rattle.std.proofs.lemmas.List.{take-append-drop, drop_more, take_at, drop_at, set_at, get_or_at, map_more, get_or-map, map-append, length-append, length-map, length-take-le, append-nil}
 use Rattle.std.proofs.lemmas.List.Elements.{All-from_recursion, recursion_from_All, filter-append}
 use Rattle.std.proofs.lemmas.List.Folds.{list_any-append}
 use Rattle.qws_base.specs.Points.{spans, holds, any_holds}
-use Rattle.qws_base.specs.Regions.{right, bottom, HasPixels, Precedes, span_of, starts_at, ends_at}
+use Rattle.qws_base.specs.Regions.{bottom, HasPixels, Precedes, span_of, starts_at, ends_at}
 use Rattle.qws_base.specs.declared.points.Point.{Point}
 use Rattle.qws_base.specs.declared.points.Rect.{Rect}
 use Rattle.band_regions.specs.Ranges.{IsInRange}
-use Rattle.band_regions.specs.Rows.{IsSpan, IsRow, IsBand, IsLevel, IsLeftOf}
-use Rattle.band_regions.specs.Bands.{IsBanded, IsUnmerged, IsSweptTo, taller}
-use Rattle.band_regions.proofs.ListLemmas.{Pairs, pairs_of, all_pairs_of, pairs_append, pairs_left, pairs_right, pairs_across, pairs_under, each_append, each_left, each_right, each_both, each_weaker, each_from_in, any_none, filter_none, filter_all}
-use Rattle.band_regions.proofs.BandLemmas.{IsStacked, stacked, banded, stacked_left, stacked_right}
+use Rattle.band_regions.specs.Rows.{IsSpan, IsBand, IsLevel, IsLeftOf}
+use Rattle.band_regions.specs.Bands.{IsUnmerged, IsSweptTo, taller}
+use Rattle.band_regions.proofs.ListLemmas.{Pairs, pairs_of, pairs_append, pairs_left, pairs_right, pairs_across, pairs_under, each_append, each_left, each_right, each_both, each_weaker, filter_none, filter_all}
+use Rattle.band_regions.proofs.BandLemmas.{IsStacked, stacked, banded}
 
 -- ---- equal spans, place by place
 
@@ -36,8 +36,8 @@ same_more xs ys i d l m e f g =
 -- ---- a part that is changed element by element
 
 pub extended : (t : Rect → Rect) (before part : List Rect) (last i : ℕ) (now : List Rect) (r : Rect) → length before ≡ last → last ≤ i → i - last < length part
-  → now ≡ (before ++ map t (take (i - last) part)) ++ drop (i - last) part → r ≡ get_or now i r
-  → set now i (t r) ≡ (before ++ map t (take (i + 1 - last) part)) ++ drop (i + 1 - last) part
+    → now ≡ (before ++ map t (take (i - last) part)) ++ drop (i - last) part → r ≡ get_or now i r
+    → set now i (t r) ≡ (before ++ map t (take (i + 1 - last) part)) ++ drop (i + 1 - last) part
 extended t before part last i now r n l m is it =
     let k : ℕ = i - last in
     let b : Rect = get_or part k r in
@@ -150,27 +150,28 @@ unmerged_more : (y : ℤ) (height : ℕ) (before end band : List Rect) → 0 < h
 unmerged_more y height before end band some h k differs z same =
     by_lt_z z y
     (λ above.
-      let starts : filter (starts_at z) ((before ++ end) ++ band) ≡ filter (starts_at z) (before ++ end) =
-        without_end (starts_at z) (before ++ end) band (filter_none (starts_at z) band (each_weaker (IsLevel y height) (λ r. starts_at z r ≡ false) (λ r l. let e = l.0 in different r.y z (inr (omega (arith, ints)))) band k.level)) in
-      let ends : filter (ends_at z) ((before ++ end) ++ band) ≡ filter (ends_at z) (before ++ end) =
-        without_end (ends_at z) (before ++ end) band (none_ends z band (each_weaker (IsLevel y height) (λ r. (bottom r <ℤ z) ⊎ (z <ℤ bottom r)) (λ r l. let e = l.0 in inr (omega (arith, ints))) band k.level)) in
-      starts ∙ h.unmerged z (sym (ap (map span_of) ends) ∙ same ∙ ap (map span_of) starts))
+    let starts : filter (starts_at z) ((before ++ end) ++ band) ≡ filter (starts_at z) (before ++ end) =
+    without_end (starts_at z) (before ++ end) band (filter_none (starts_at z) band (each_weaker (IsLevel y height) (λ r. starts_at z r ≡ false) (λ r l. let e = l.0 in different r.y z (inr (omega (arith, ints)))) band k.level)) in
+    let ends : filter (ends_at z) ((before ++ end) ++ band) ≡ filter (ends_at z) (before ++ end) =
+    without_end (ends_at z) (before ++ end) band (none_ends z band (each_weaker (IsLevel y height) (λ r. (bottom r <ℤ z) ⊎ (z <ℤ bottom r)) (λ r l. let e = l.0 in inr (omega (arith, ints))) band k.level)) in
+    starts ∙ h.unmerged z (sym (ap (map span_of) ends) ∙ same ∙ ap (map span_of) starts))
     (λ at. by_lt_z y z
-      (λ below. none_starts z ((before ++ end) ++ band) (each_append (λ r. r.y <ℤ z) (before ++ end) band
-        (each_weaker (λ r. r.y <ℤ y) (λ r. r.y <ℤ z) (λ r l. omega (arith, ints)) (before ++ end) (all_above y before end h))
-        (each_weaker (IsLevel y height) (λ r. r.y <ℤ z) (λ r l. let e = l.0 in omega (arith, ints)) band k.level)))
-      (λ at_too. let e : z ≡ y = omega (arith, ints) in
-        absurd (differs (sym (ap (map span_of) (ends_there z e)) ∙ same ∙ ap (map span_of) (starts_there z e)))))
+    (λ below. none_starts z ((before ++ end) ++ band) (each_append (λ r. r.y <ℤ z) (before ++ end) band
+    (each_weaker (λ r. r.y <ℤ y) (λ r. r.y <ℤ z) (λ r l. omega (arith, ints)) (before ++ end) (all_above y before end h))
+    (each_weaker (IsLevel y height) (λ r. r.y <ℤ z) (λ r l. let e = l.0 in omega (arith, ints)) band k.level)))
+    (λ at_too. let e : z ≡ y = omega (arith, ints) in
+    absurd (differs (sym (ap (map span_of) (ends_there z e)) ∙ same ∙ ap (map span_of) (starts_there z e)))))
   where
     ends_there : (z : ℤ) → z ≡ y → filter (ends_at z) ((before ++ end) ++ band) ≡ end
     ends_there z e =
-      without_end (ends_at z) (before ++ end) band (none_ends z band (each_weaker (IsLevel y height) (λ r. (bottom r <ℤ z) ⊎ (z <ℤ bottom r)) (λ r l. let a = l.0 in let b = l.1 in inr (omega (arith, ints))) band k.level))
-      ∙ without_start (ends_at z) before end (none_ends z before (each_weaker (λ r. bottom r <ℤ y) (λ r. (bottom r <ℤ z) ⊎ (z <ℤ bottom r)) (λ r l. inl (omega (arith, ints))) before h.ended))
-      ∙ filter_all (ends_at z) end (each_weaker (λ r. bottom r ≡ y) (λ r. ends_at z r ≡ true) (λ r l. is_equal (bottom r) z (l ∙ sym e)) end h.ending)
+        without_end (ends_at z) (before ++ end) band (none_ends z band (each_weaker (IsLevel y height) (λ r. (bottom r <ℤ z) ⊎ (z <ℤ bottom r)) (λ r l. let a = l.0 in let b = l.1 in inr (omega (arith, ints))) band k.level))
+        ∙ without_start (ends_at z) before end (none_ends z before (each_weaker (λ r. bottom r <ℤ y) (λ r. (bottom r <ℤ z) ⊎ (z <ℤ bottom r)) (λ r l. inl (omega (arith, ints))) before h.ended))
+        ∙ filter_all (ends_at z) end (each_weaker (λ r. bottom r ≡ y) (λ r. ends_at z r ≡ true) (λ r l. is_equal (bottom r) z (l ∙ sym e)) end h.ending)
+
     starts_there : (z : ℤ) → z ≡ y → filter (starts_at z) ((before ++ end) ++ band) ≡ band
     starts_there z e =
-      without_start (starts_at z) (before ++ end) band (none_starts z (before ++ end) (each_weaker (λ r. r.y <ℤ y) (λ r. r.y <ℤ z) (λ r l. omega (arith, ints)) (before ++ end) (all_above y before end h)))
-      ∙ filter_all (starts_at z) band (each_weaker (IsLevel y height) (λ r. starts_at z r ≡ true) (λ r l. is_equal r.y z (l.0 ∙ sym e)) band k.level)
+        without_start (starts_at z) (before ++ end) band (none_starts z (before ++ end) (each_weaker (λ r. r.y <ℤ y) (λ r. r.y <ℤ z) (λ r l. omega (arith, ints)) (before ++ end) (all_above y before end h)))
+        ∙ filter_all (starts_at z) band (each_weaker (IsLevel y height) (λ r. starts_at z r ≡ true) (λ r l. is_equal r.y z (l.0 ∙ sym e)) band k.level)
 
 pub swept_more : (y : ℤ) (height last : ℕ) (rects band : List Rect) → IsSweptTo y last rects → 0 < height → negsuc 32767 ≤ℤ y → (y +ℤ pos height) ≤ℤ pos 32768 → IsBand y height band → (map span_of (drop last rects) ≡ map span_of band → ⊥) → IsSweptTo (y +ℤ pos height) (length rects) (rects ++ band)
 swept_more y height last rects band h some low high b differs =
@@ -229,13 +230,13 @@ stacked_taller y height before end high h =
     let known : Each (λ r. HasPixels r × (bottom r ≡ y)) end = each_both HasPixels (λ r. bottom r ≡ y) (λ r. HasPixels r × (bottom r ≡ y)) (λ r p q. (p, q)) end pixels h.ending in
     record {
       range = each_append IsInRange before (map (taller height) end) (each_left IsInRange before end h.stack.range)
-        (each_map (λ r. IsInRange r × (bottom r ≡ y)) IsInRange (taller height) (λ r k. let e = k.1 in let i = k.0 in record { low_x = i.low_x; high_x = i.high_x; low_y = i.low_y; high_y = i.high_y; high_right = i.high_right; high_bottom = omega (arith, ints) }) end
+          (each_map (λ r. IsInRange r × (bottom r ≡ y)) IsInRange (taller height) (λ r k. let e = k.1 in let i = k.0 in record { low_x = i.low_x; high_x = i.high_x; low_y = i.low_y; high_y = i.high_y; high_right = i.high_right; high_bottom = omega (arith, ints) }) end
           (each_both IsInRange (λ r. bottom r ≡ y) (λ r. IsInRange r × (bottom r ≡ y)) (λ r p q. (p, q)) end (each_right IsInRange before end h.stack.range) h.ending));
       pixels = each_append HasPixels before (map (taller height) end) (each_left HasPixels before end h.stack.pixels)
-        (each_map HasPixels HasPixels (taller height) (λ r p. let q = p.1 in (p.0, omega arith)) end pixels);
+          (each_map HasPixels HasPixels (taller height) (λ r p. let q = p.1 in (p.0, omega arith)) end pixels);
       sorted = pairs_append Precedes before (map (taller height) end) (pairs_left Precedes before end h.stack.sorted)
-        (pairs_map (λ r. HasPixels r × (bottom r ≡ y)) (taller height) (taller_in_band y height) end known (pairs_right Precedes before end h.stack.sorted))
-        (each_both (λ r. bottom r <ℤ y) (λ r. Each (Precedes r) end) (λ r. Each (Precedes r) (map (taller height) end))
+          (pairs_map (λ r. HasPixels r × (bottom r ≡ y)) (taller height) (taller_in_band y height) end known (pairs_right Precedes before end h.stack.sorted))
+          (each_both (λ r. bottom r <ℤ y) (λ r. Each (Precedes r) end) (λ r. Each (Precedes r) (map (taller height) end))
           (λ r l m. each_map (λ s. (bottom s ≡ y) × Precedes r s) (Precedes r) (taller height) (λ s k. taller_below y height r s l k.0 k.1) end (each_both (λ s. bottom s ≡ y) (Precedes r) (λ s. (bottom s ≡ y) × Precedes r s) (λ s p q. (p, q)) end h.ending m))
           before h.ended (pairs_across Precedes before end h.stack.sorted));
     }
@@ -261,12 +262,12 @@ unmerged_taller : (y : ℤ) (height : ℕ) (before end : List Rect) → 0 < heig
 unmerged_taller y height before end some h z same =
     by_lt_z z y
     (λ above.
-      let now : filter (ends_at z) (before ++ map (taller height) end) ≡ filter (ends_at z) before =
-        without_end (ends_at z) before (map (taller height) end) (none_ends z (map (taller height) end) (each_weaker (λ r. bottom r ≡ (y +ℤ pos height)) (λ r. (bottom r <ℤ z) ⊎ (z <ℤ bottom r)) (λ r e. inr (omega (arith, ints))) (map (taller height) end) (ends_taller y height end h.ending))) in
-      let was : filter (ends_at z) (before ++ end) ≡ filter (ends_at z) before =
-        without_end (ends_at z) before end (none_ends z end (each_weaker (λ r. bottom r ≡ y) (λ r. (bottom r <ℤ z) ⊎ (z <ℤ bottom r)) (λ r e. inr (omega (arith, ints))) end h.ending)) in
-      nil_of_map (filter (starts_at z) (before ++ map (taller height) end))
-        (starts_taller z height before end ∙ ap (map span_of) (h.unmerged z (ap (map span_of) (was ∙ sym now) ∙ same ∙ starts_taller z height before end))))
+    let now : filter (ends_at z) (before ++ map (taller height) end) ≡ filter (ends_at z) before =
+    without_end (ends_at z) before (map (taller height) end) (none_ends z (map (taller height) end) (each_weaker (λ r. bottom r ≡ (y +ℤ pos height)) (λ r. (bottom r <ℤ z) ⊎ (z <ℤ bottom r)) (λ r e. inr (omega (arith, ints))) (map (taller height) end) (ends_taller y height end h.ending))) in
+    let was : filter (ends_at z) (before ++ end) ≡ filter (ends_at z) before =
+    without_end (ends_at z) before end (none_ends z end (each_weaker (λ r. bottom r ≡ y) (λ r. (bottom r <ℤ z) ⊎ (z <ℤ bottom r)) (λ r e. inr (omega (arith, ints))) end h.ending)) in
+    nil_of_map (filter (starts_at z) (before ++ map (taller height) end))
+    (starts_taller z height before end ∙ ap (map span_of) (h.unmerged z (ap (map span_of) (was ∙ sym now) ∙ same ∙ starts_taller z height before end))))
     (λ at. none_starts z (before ++ map (taller height) end) (each_weaker (λ r. r.y <ℤ y) (λ r. r.y <ℤ z) (λ r l. omega (arith, ints)) (before ++ map (taller height) end) (above_taller y height before end h)))
 
 pub swept_taller : (y : ℤ) (height last : ℕ) (rects : List Rect) → IsSweptTo y last rects → 0 < height → (y +ℤ pos height) ≤ℤ pos 32768 → IsSweptTo (y +ℤ pos height) last (take last rects ++ map (taller height) (drop last rects))
@@ -299,8 +300,8 @@ holds_taller y height r s p e l f g =
     ap (λ b. spans r.x r.w p.x && b) (spans_more r.y p.y r.h height)
     ∙ and_or (spans r.x r.w p.x) (spans r.y r.h p.y) (spans (bottom r) height p.y)
     ∙ ap (λ b. (spans r.x r.w p.x && spans r.y r.h p.y) || b)
-      (ap (λ x. spans x r.w p.x && spans (bottom r) height p.y) f ∙ ap (λ w. spans s.x w p.x && spans (bottom r) height p.y) g
-      ∙ ap (λ t. spans s.x s.w p.x && spans t height p.y) (e ∙ sym l.0) ∙ ap (λ n. spans s.x s.w p.x && spans s.y n p.y) (sym l.1))
+    (ap (λ x. spans x r.w p.x && spans (bottom r) height p.y) f ∙ ap (λ w. spans s.x w p.x && spans (bottom r) height p.y) g
+    ∙ ap (λ t. spans s.x s.w p.x && spans t height p.y) (e ∙ sym l.0) ∙ ap (λ n. spans s.x s.w p.x && spans s.y n p.y) (sym l.1))
 
 any_taller : (y : ℤ) (height : ℕ) (end band : List Rect) (p : Point) → map span_of end ≡ map span_of band → Each (λ r. bottom r ≡ y) end → Each (IsLevel y height) band → any_holds (map (taller height) end) p ≡ (any_holds end p || any_holds band p)
 any_taller y height [] [] p e h k = refl

@@ -1,13 +1,13 @@
 -- Bands seen from a row: their next end, what they have there, and what is left of them.
-use Rattle.std.proofs.Common.{◌≡◌, ℕ, ◌+◌, ◌-◌, ◌<◌, ◌≤◌, zero, suc, Bool, true, false, ◌||◌, ◌&&◌, ◌⊎◌, List, [], ◌∷◌, ◌++◌, length, get_or, take, drop, refl, sym, ap, ◌∙◌, subst, inl, inr, arith, to_z, of_z, w32}
-use Rattle.std.specs.Prelude.{ℤ, pos, negsuc, ◌+ℤ◌, ◌<ℤ◌, ◌≤ℤ◌, int_le}
-use Rattle.std.specs.List.{All, AllPairs, AllByRecursion as Each, list_any}
-use Rattle.std.proofs.lemmas.Int.{ints, by_lt_z}
+use Rattle.std.proofs.Common.{◌≡◌, ℕ, ◌+◌, ◌<◌, Bool, true, false, ◌||◌, ◌&&◌, ◌⊎◌, List, [], ◌∷◌, ◌++◌, length, get_or, take, drop, refl, sym, ap, ◌∙◌, subst, inl, inr, arith, to_z, of_z, w32}
+use Rattle.std.specs.Prelude.{ℤ, ◌<ℤ◌, ◌≤ℤ◌}
+use Rattle.std.specs.List.{All, AllByRecursion as Each}
+use Rattle.std.proofs.lemmas.Int.{ints}
 use Rattle.std.proofs.lemmas.List.{take-append-drop, drop_more}
 use Rattle.std.proofs.lemmas.List.Elements.{All-from_recursion, recursion_from_All, All-head}
 use Rattle.std.proofs.lemmas.List.Folds.{list_any-append}
 use Rattle.qws_base.specs.Points.{spans, holds, any_holds}
-use Rattle.qws_base.specs.Regions.{right, bottom, HasPixels, Precedes}
+use Rattle.qws_base.specs.Regions.{bottom, HasPixels, Precedes}
 use Rattle.qws_base.specs.declared.points.Point.{Point}
 use Rattle.qws_base.specs.declared.points.Rect.{Rect}
 use Rattle.band_regions.specs.Ranges.{IsInRange}
@@ -71,11 +71,12 @@ reach_above rects d next l h e = λ k t m. let top = tops rects d next l h e k t
 pub none_above : (rects : List Rect) (d : Rect) (p : Point) → 0 < length rects → IsBanded rects → p.y <ℤ (get_or rects 0 d).y → any_holds rects p ≡ false
 none_above rects d p l h k =
     any_none (λ r. holds r p) rects (each_weaker (λ s. (get_or rects 0 d).y ≤ℤ s.y) (λ s. holds s p ≡ false) (λ s m. row_false s p (not_before s.y p.y s.h (omega (arith, ints)))) rects
-      (recursion_from_All (λ s. (get_or rects 0 d).y ≤ℤ s.y) rects (tops rects d (get_or rects 0 d).y l h refl)))
+    (recursion_from_All (λ s. (get_or rects 0 d).y ≤ℤ s.y) rects (tops rects d (get_or rects 0 d).y l h refl)))
   where
     and_false : (b : Bool) → (b && false) ≡ false
     and_false true = refl
     and_false false = refl
+
     row_false : (s : Rect) (p : Point) → spans s.y s.h p.y ≡ false → holds s p ≡ false
     row_false s p e = ap (λ b. spans s.x s.w p.x && b) e ∙ and_false (spans s.x s.w p.x)
 
@@ -91,7 +92,7 @@ pub alike_in_band : (rects : List Rect) (d : Rect) (from : ℤ) (p : Point) → 
 alike_in_band [] d from p l h a b c = refl
 alike_in_band (r ∷ rs) d from p l h a b c =
     any_same (λ s. holds s p) (λ s. holds s (in_row from p)) (r ∷ rs)
-      (each_weaker (IsFrom r) (λ s. holds s p ≡ holds s (in_row from p)) (λ s k. ap (λ t. spans s.x s.w p.x && t) (same_rows r s from p.y k a b c)) (r ∷ rs) (from_first r rs (stacked (r ∷ rs) h)))
+    (each_weaker (IsFrom r) (λ s. holds s p ≡ holds s (in_row from p)) (λ s k. ap (λ t. spans s.x s.w p.x && t) (same_rows r s from p.y k a b c)) (r ∷ rs) (from_first r rs (stacked (r ∷ rs) h)))
 
 -- ---- the first band, and what comes after it
 
@@ -102,7 +103,7 @@ beyond rects n d top l h low differs =
     let rest : IsStacked (r ∷ drop (n + 1) rects) = subst IsStacked (drop_more rects n d l) (stacked_right (take n rects) (drop n rects) (subst IsStacked (sym parts) (stacked rects h))) in
     let above : top <ℤ r.y = omega (arith, ints, differs) in
     All-from_recursion (λ s. top <ℤ s.y) (drop n rects) (subst (Each (λ s. top <ℤ s.y)) (sym (drop_more rects n d l))
-      (each_weaker (IsFrom r) (λ s. top <ℤ s.y) (λ s k. let m = top_from r s k in omega (arith, ints)) (r ∷ drop (n + 1) rects) (from_first r (drop (n + 1) rects) rest)))
+    (each_weaker (IsFrom r) (λ s. top <ℤ s.y) (λ s k. let m = top_from r s k in omega (arith, ints)) (r ∷ drop (n + 1) rects) (from_first r (drop (n + 1) rects) rest)))
 
 -- the first band is the list up to a place
 pub record IsFirstBand (top : ℤ) (n : ℕ) (rects : List Rect) : Type 0 where
@@ -135,9 +136,9 @@ parted r rs n h f =
     record {
       stack = subst IsStacked (sym parts) stack;
       level = each_both (IsFrom r) (λ s. s.y ≡ r.y) (λ s. (s.y ≡ r.y) × (s.h ≡ r.h)) (λ s k e. in_first r s stack.pixels.0 k e) (take n (r ∷ rs))
-        (each_left (IsFrom r) (take n (r ∷ rs)) (drop n (r ∷ rs)) from) (recursion_from_All (λ s. s.y ≡ r.y) (take n (r ∷ rs)) f.in_band);
+          (each_left (IsFrom r) (take n (r ∷ rs)) (drop n (r ∷ rs)) from) (recursion_from_All (λ s. s.y ≡ r.y) (take n (r ∷ rs)) f.in_band);
       after = each_both (IsFrom r) (λ s. r.y <ℤ s.y) (λ s. bottom r ≤ℤ s.y) (λ s k e. after_first r s k e) (drop n (r ∷ rs))
-        (each_right (IsFrom r) (take n (r ∷ rs)) (drop n (r ∷ rs)) from) (recursion_from_All (λ s. r.y <ℤ s.y) (drop n (r ∷ rs)) f.below);
+          (each_right (IsFrom r) (take n (r ∷ rs)) (drop n (r ∷ rs)) from) (recursion_from_All (λ s. r.y <ℤ s.y) (drop n (r ∷ rs)) f.below);
     }
 
 gap_in_band : (top : ℤ) (r s : Rect) → HasPixels r × (r.y ≡ top) → HasPixels s × (s.y ≡ top) → Precedes r s → IsLeftOf r s
@@ -187,8 +188,8 @@ row_of_first (r ∷ rs) d n row l h f a b =
     record {
       is_row = row_of_band (take n (r ∷ rs)) r.y (stacked_left (take n (r ∷ rs)) (drop n (r ∷ rs)) it.stack) (each_weaker (λ s. (s.y ≡ r.y) × (s.h ≡ r.h)) (λ s. s.y ≡ r.y) (λ s k. k.0) (take n (r ∷ rs)) it.level);
       columns = λ p.
-        any_same (λ s. spans s.x s.w p.x) (λ s. holds s (in_row row p)) (take n (r ∷ rs)) (each_weaker (λ s. (s.y ≡ r.y) × (s.h ≡ r.h)) (λ s. spans s.x s.w p.x ≡ holds s (in_row row p)) (λ s k. let e = k.0 in let g = k.1 in sym (row_yes s (in_row row p) (spans_from s.y row s.h (omega (arith, ints)) (omega (arith, ints))))) (take n (r ∷ rs)) it.level)
-        ∙ sym (any_parts n (r ∷ rs) (in_row row p)
+          any_same (λ s. spans s.x s.w p.x) (λ s. holds s (in_row row p)) (take n (r ∷ rs)) (each_weaker (λ s. (s.y ≡ r.y) × (s.h ≡ r.h)) (λ s. spans s.x s.w p.x ≡ holds s (in_row row p)) (λ s k. let e = k.0 in let g = k.1 in sym (row_yes s (in_row row p) (spans_from s.y row s.h (omega (arith, ints)) (omega (arith, ints))))) (take n (r ∷ rs)) it.level)
+          ∙ sym (any_parts n (r ∷ rs) (in_row row p)
           ∙ ap (λ t. any_holds (take n (r ∷ rs)) (in_row row p) || t) (any_none (λ s. holds s (in_row row p)) (drop n (r ∷ rs)) (each_weaker (λ s. bottom r ≤ℤ s.y) (λ s. holds s (in_row row p) ≡ false) (λ s k. row_no s (in_row row p) (not_before s.y row s.h (omega (arith, ints)))) (drop n (r ∷ rs)) it.after))
           ∙ or_false (any_holds (take n (r ∷ rs)) (in_row row p)));
     }
@@ -204,7 +205,7 @@ past_band (r ∷ rs) d n row l h f a b =
       is_banded = banded (drop n (r ∷ rs)) rest;
       ahead = All-from_recursion (EndsBelow row) (drop n (r ∷ rs)) (each_both HasPixels (λ s. bottom r ≤ℤ s.y) (EndsBelow row) (λ s p k. let q = p.1 in omega (arith, ints)) (drop n (r ∷ rs)) rest.pixels it.after);
       same = λ p m. sym (any_parts n (r ∷ rs) p
-        ∙ ap (λ t. t || any_holds (drop n (r ∷ rs)) p) (any_none (λ s. holds s p) (take n (r ∷ rs)) (each_weaker (λ s. (s.y ≡ r.y) × (s.h ≡ r.h)) (λ s. holds s p ≡ false) (λ s k. let e = k.0 in let g = k.1 in row_no s p (not_after s.y p.y s.h (omega (arith, ints)))) (take n (r ∷ rs)) it.level)));
+          ∙ ap (λ t. t || any_holds (drop n (r ∷ rs)) p) (any_none (λ s. holds s p) (take n (r ∷ rs)) (each_weaker (λ s. (s.y ≡ r.y) × (s.h ≡ r.h)) (λ s. holds s p ≡ false) (λ s k. let e = k.0 in let g = k.1 in row_no s p (not_after s.y p.y s.h (omega (arith, ints)))) (take n (r ∷ rs)) it.level)));
     }
 
 pub past_no_band : (rects : List Rect) (d : Rect) (row : ℤ) → 0 < length rects → IsBanded rects → row <ℤ bottom (get_or rects 0 d) → IsRestOfBands row rects rects

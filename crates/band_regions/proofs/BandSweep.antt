@@ -1,7 +1,7 @@
 -- The sweep over two lists of bands, row by row at which a band begins or ends.
-use Rattle.std.proofs.Common.{◌≡◌, ℕ, ◌+◌, ◌<◌, Bool, true, false, ◌||◌, ◌&&◌, nat_eq, List, [], ◌∷◌, ◌++◌, length, take, drop, refl, sym, ap, ◌∙◌, subst, arith}
+use Rattle.std.proofs.Common.{◌≡◌, ℕ, Bool, true, false, ◌||◌, nat_eq, List, [], ◌∷◌, length, take, drop, refl, sym, ap, ◌∙◌, subst, arith}
 use Rattle.std.specs.Prelude.{ℤ, pos, negsuc, ◌+ℤ◌, ◌<ℤ◌, ◌≤ℤ◌}
-use Rattle.std.specs.List.{All, AllByRecursion as Each, filter, list_any}
+use Rattle.std.specs.List.{All, AllByRecursion as Each}
 use Rattle.std.proofs.lemmas.Int.{ints, by_lt_z}
 use Rattle.std.proofs.lemmas.List.{take-append-drop}
 use Rattle.std.proofs.lemmas.List.Elements.{All-from_recursion, recursion_from_All, All-nil, All-head}
@@ -60,9 +60,9 @@ swept_none operation first second h k = record {
 none_under : (y : ℤ) (last : ℕ) (rects : List Rect) (p : Point) → IsSweptTo y last rects → y ≤ℤ p.y → any_holds rects p ≡ false
 none_under y last rects p h l =
     any_none (λ r. holds r p) rects (subst (Each (λ r. holds r p ≡ false)) (take-append-drop last rects)
-      (each_append (λ r. holds r p ≡ false) (take last rects) (drop last rects)
-        (each_weaker (λ r. bottom r <ℤ y) (λ r. holds r p ≡ false) (λ r m. row_no r p (not_after r.y p.y r.h (omega (arith, ints)))) (take last rects) (recursion_from_All (λ r. bottom r <ℤ y) (take last rects) h.ended))
-        (each_weaker (λ r. bottom r ≡ y) (λ r. holds r p ≡ false) (λ r m. row_no r p (not_after r.y p.y r.h (omega (arith, ints)))) (drop last rects) (recursion_from_All (λ r. bottom r ≡ y) (drop last rects) h.ending))))
+    (each_append (λ r. holds r p ≡ false) (take last rects) (drop last rects)
+    (each_weaker (λ r. bottom r <ℤ y) (λ r. holds r p ≡ false) (λ r m. row_no r p (not_after r.y p.y r.h (omega (arith, ints)))) (take last rects) (recursion_from_All (λ r. bottom r <ℤ y) (take last rects) h.ended))
+    (each_weaker (λ r. bottom r ≡ y) (λ r. holds r p ≡ false) (λ r m. row_no r p (not_after r.y p.y r.h (omega (arith, ints)))) (drop last rects) (recursion_from_All (λ r. bottom r ≡ y) (drop last rects) h.ending))))
 
 none_in_band : (y : ℤ) (height : ℕ) (band : List Rect) (p : Point) → IsBand y height band → p.y <ℤ y → any_holds band p ≡ false
 none_in_band y height band p h l = any_none (λ r. holds r p) band (each_weaker (IsLevel y height) (λ r. holds r p ≡ false) (λ r k. let e = k.0 in row_no r p (not_before r.y p.y r.h (omega (arith, ints)))) band (recursion_from_All (IsLevel y height) band h.level))
@@ -84,13 +84,13 @@ or_first true b e = refl
 or_first false b e = e
 
 pub swept_step : (operation : Operation) (first second : List Rect) (y next : ℤ) (height last last' : ℕ) (f s rects band more row row' f' s' : List Rect)
-  → IsSwept operation first second y last f s rects → y <ℤ next → next ≤ℤ pos 32768 → (y +ℤ pos height) ≡ next
-  → ((p : Point) → y ≤ℤ p.y → p.y <ℤ next → any_holds f p ≡ any_holds f (in_row y p)) → ((p : Point) → y ≤ℤ p.y → p.y <ℤ next → any_holds s p ≡ any_holds s (in_row y p))
-  → ((p : Point) → has_column row p.x ≡ any_holds f (in_row y p)) → ((p : Point) → has_column row' p.x ≡ any_holds s (in_row y p))
-  → IsBand y height band → ((c : ℤ) → has_column band c ≡ keeps operation (has_column row c) (has_column row' c))
-  → IsSweptTo (y +ℤ pos height) last' more → ((p : Point) → any_holds more p ≡ (any_holds rects p || any_holds band p))
-  → IsRestOfBands next f f' → IsRestOfBands next s s'
-  → IsSwept operation first second next last' f' s' more
+    → IsSwept operation first second y last f s rects → y <ℤ next → next ≤ℤ pos 32768 → (y +ℤ pos height) ≡ next
+    → ((p : Point) → y ≤ℤ p.y → p.y <ℤ next → any_holds f p ≡ any_holds f (in_row y p)) → ((p : Point) → y ≤ℤ p.y → p.y <ℤ next → any_holds s p ≡ any_holds s (in_row y p))
+    → ((p : Point) → has_column row p.x ≡ any_holds f (in_row y p)) → ((p : Point) → has_column row' p.x ≡ any_holds s (in_row y p))
+    → IsBand y height band → ((c : ℤ) → has_column band c ≡ keeps operation (has_column row c) (has_column row' c))
+    → IsSweptTo (y +ℤ pos height) last' more → ((p : Point) → any_holds more p ≡ (any_holds rects p || any_holds band p))
+    → IsRestOfBands next f f' → IsRestOfBands next s s'
+    → IsSwept operation first second next last' f' s' more
 swept_step operation first second y next height last last' f s rects band more row row' f' s' h l m e u v r r' b columns swept points k j = record {
   from_start = let low = h.from_start in omega (arith, ints);
   up_to_end = m;
@@ -98,8 +98,8 @@ swept_step operation first second y next height last last' f s rects band more r
   second_left = rest_on y next second s s' (omega (arith, ints)) h.second_left j;
   swept = subst (λ z. IsSweptTo z last' more) e swept;
   points = λ p below. by_lt_z p.y y
-    (λ before. points p ∙ or_first (any_holds rects p) (any_holds band p) (none_in_band y height band p b before) ∙ h.points p before)
-    (λ at. points p ∙ or_second (any_holds rects p) (any_holds band p) (none_under y last rects p h.swept at)
+      (λ before. points p ∙ or_first (any_holds rects p) (any_holds band p) (none_in_band y height band p b before) ∙ h.points p before)
+      (λ at. points p ∙ or_second (any_holds rects p) (any_holds band p) (none_under y last rects p h.swept at)
       ∙ in_band y height band p b at (omega (arith, ints))
       ∙ columns p.x
       ∙ ap (λ t. keeps operation t (has_column row' p.x)) (r p ∙ sym (u p at below) ∙ h.first_left.same p at)
@@ -112,12 +112,12 @@ more_left y rects [] h e = cc
 more_left y rects (r ∷ rs) h e = let ends = All-head (EndsBelow y) r rs h.ahead in let it = All-head IsInRange r rs h.is_banded.in_range in let high = it.high_bottom in omega (arith, ints)
 
 pub swept_all : (operation : Operation) (first second : List Rect) (y : ℤ) (last : ℕ) (f s rects : List Rect)
-  → IsSwept operation first second y last f s rects → f ≡ [] → s ≡ [] → (p : Point) → any_holds rects p ≡ keeps operation (any_holds first p) (any_holds second p)
+    → IsSwept operation first second y last f s rects → f ≡ [] → s ≡ [] → (p : Point) → any_holds rects p ≡ keeps operation (any_holds first p) (any_holds second p)
 swept_all operation first second y last f s rects h e g p =
     by_lt_z p.y y (λ before. h.points p before)
     (λ at. none_under y last rects p h.swept at
-      ∙ sym (both_false operation (any_holds first p) (any_holds second p)
-        (sym (h.first_left.same p at) ∙ ap (λ xs. any_holds xs p) e) (sym (h.second_left.same p at) ∙ ap (λ xs. any_holds xs p) g)))
+    ∙ sym (both_false operation (any_holds first p) (any_holds second p)
+    (sym (h.first_left.same p at) ∙ ap (λ xs. any_holds xs p) e) (sym (h.second_left.same p at) ∙ ap (λ xs. any_holds xs p) g)))
 
 pub kept : (y : ℤ) (last : ℕ) (rects : List Rect) → IsSweptTo y last rects → IsKept rects
 kept y last rects h = record { canonical = record { some_pixels = h.is_banded.some_pixels; sorted = h.is_banded.sorted; unmerged = h.unmerged }; in_range = h.is_banded.in_range }

@@ -1,20 +1,20 @@
 -- Single rectangles, moved lists, and the search for a point.
-use Rattle.std.proofs.Common.{◌≡◌, ℕ, ◌+◌, ◌<◌, ◌≤◌, zero, suc, Bool, true, false, cond, ◌||◌, ◌&&◌, ◌⊎◌, List, [], ◌∷◌, ◌++◌, length, get_or, map, take, drop, refl, sym, ap, ◌∙◌, subst, inl, inr, arith}
-use Rattle.std.specs.Prelude.{ℤ, pos, negsuc, ◌+ℤ◌, ◌-ℤ◌, ◌<ℤ◌, ◌≤ℤ◌, int_le, int_lt}
-use Rattle.std.specs.List.{All, AllPairs, AllWithin, AllByRecursion as Each, filter, list_any}
+use Rattle.std.proofs.Common.{◌≡◌, ℕ, ◌+◌, ◌<◌, ◌≤◌, Bool, true, false, cond, ◌||◌, ◌&&◌, ◌⊎◌, List, [], ◌∷◌, length, get_or, map, take, drop, refl, sym, ap, ◌∙◌, subst, inl, inr, arith}
+use Rattle.std.specs.Prelude.{ℤ, pos, ◌+ℤ◌, ◌-ℤ◌, ◌<ℤ◌, ◌≤ℤ◌, int_le}
+use Rattle.std.specs.List.{All, AllWithin, AllByRecursion as Each, filter, list_any}
 use Rattle.std.specs.List.Sorted.{IsPartitionPoint, IsPartitionedBy}
 use Rattle.std.specs.Ordering.{int_eq}
 use Rattle.std.proofs.lemmas.Int.{ints, by_lt_z}
-use Rattle.std.proofs.lemmas.Bool.{false≢true, and_parts, or_parts, or_cases, and_from, or_left, or_right, cases_lt}
+use Rattle.std.proofs.lemmas.Bool.{false≢true, and_parts, or_cases, and_from, or_left, or_right, cases_lt}
 use Rattle.std.proofs.lemmas.List.{take-append-drop, drop_more, get_or-take, length-take-le, take_all}
 use Rattle.std.proofs.lemmas.List.Elements.{All-from_recursion, recursion_from_All, All-nil, All-drop}
 use Rattle.std.proofs.lemmas.List.Folds.{list_any-append}
 use Rattle.qws_base.specs.Points.{spans, holds, any_holds, shifted, minus}
-use Rattle.qws_base.specs.Regions.{right, bottom, HasPixels, Precedes, span_of, starts_at, ends_at, IsCanonical, IsRegionOf}
+use Rattle.qws_base.specs.Regions.{right, bottom, HasPixels, Precedes, span_of, starts_at, ends_at, IsRegionOf}
 use Rattle.qws_base.specs.declared.points.Point.{Point}
 use Rattle.qws_base.specs.declared.points.Rect.{Rect}
-use Rattle.band_regions.specs.Ranges.{IsInRange, IsKept, IsShiftable, shift_of, is_before}
-use Rattle.band_regions.proofs.ListLemmas.{Pairs, pairs_of, all_pairs_of, pairs_right, any_none, any_same, any_in, In, each_in, each_weaker, each_both, same_bools}
+use Rattle.band_regions.specs.Ranges.{IsInRange, IsKept, is_before}
+use Rattle.band_regions.proofs.ListLemmas.{Pairs, pairs_of, all_pairs_of, pairs_right, any_none, each_weaker, each_both, same_bools}
 use Rattle.band_regions.proofs.Spanning.{low_of, high_of, spans_from}
 
 -- ---- one rectangle, or none
@@ -116,11 +116,11 @@ kept_moved d xs h k = record {
     some_pixels = All-from_recursion HasPixels (map (shifted d) xs) (each_map HasPixels HasPixels (shifted d) (λ r p. p) xs (recursion_from_All HasPixels xs h.canonical.some_pixels));
     sorted = all_pairs_of Precedes (map (shifted d) xs) (pairs_map Precedes (shifted d) (moved_precedes d) xs (pairs_of Precedes xs h.canonical.sorted));
     unmerged = λ y same.
-      let ends : filter (ends_at y) (map (shifted d) xs) ≡ map (shifted d) (filter (ends_at (y -ℤ d.y)) xs) = filter-map (ends_at y) (ends_at (y -ℤ d.y)) (shifted d) xs (moved_ends d y) in
-      let starts : filter (starts_at y) (map (shifted d) xs) ≡ map (shifted d) (filter (starts_at (y -ℤ d.y)) xs) = filter-map (starts_at y) (starts_at (y -ℤ d.y)) (shifted d) xs (moved_starts d y) in
-      let was : map span_of (filter (ends_at (y -ℤ d.y)) xs) ≡ map span_of (filter (starts_at (y -ℤ d.y)) xs) =
+        let ends : filter (ends_at y) (map (shifted d) xs) ≡ map (shifted d) (filter (ends_at (y -ℤ d.y)) xs) = filter-map (ends_at y) (ends_at (y -ℤ d.y)) (shifted d) xs (moved_ends d y) in
+        let starts : filter (starts_at y) (map (shifted d) xs) ≡ map (shifted d) (filter (starts_at (y -ℤ d.y)) xs) = filter-map (starts_at y) (starts_at (y -ℤ d.y)) (shifted d) xs (moved_starts d y) in
+        let was : map span_of (filter (ends_at (y -ℤ d.y)) xs) ≡ map span_of (filter (starts_at (y -ℤ d.y)) xs) =
         sym (spans_back d (filter (ends_at (y -ℤ d.y)) xs)) ∙ ap (map (λ (t : ℤ × ℕ). (t.0 -ℤ d.x, t.1))) (sym (ap (map span_of) ends) ∙ same ∙ ap (map span_of) starts) ∙ spans_back d (filter (starts_at (y -ℤ d.y)) xs) in
-      starts ∙ ap (map (shifted d)) (h.canonical.unmerged (y -ℤ d.y) was);
+        starts ∙ ap (map (shifted d)) (h.canonical.unmerged (y -ℤ d.y) was);
   };
   in_range = All-from_recursion IsInRange (map (shifted d) xs) (each_map (λ r. IsInRange (shifted d r)) IsInRange (shifted d) (λ r p. p) xs (recursion_from_All (λ r. IsInRange (shifted d r)) xs k));
 }
@@ -147,6 +147,7 @@ before_is r p e h =
   where
     le_of : (a b : ℤ) → int_le a b ≡ true → a ≤ℤ b
     le_of a b e = grind (arith, ints)
+
     by_case : (int_le (bottom r) p.y ≡ true) ⊎ ((int_le r.y p.y && int_le (right r) p.x) ≡ true) → p.x <ℤ right r → p.y <ℤ bottom r → ⊥
     by_case (inl f) a b = let l = le_of (bottom r) p.y f in omega (arith, ints)
     by_case (inr f) a b = let l = le_of (right r) p.x (and_parts (int_le r.y p.y) (int_le (right r) p.x) f).1 in omega (arith, ints)
@@ -176,9 +177,9 @@ before_falls r s p h k e = by_case (or_cases (int_le (bottom s) p.y) (int_le s.y
     by_case (inl f) (inl same) = let l = to_le (bottom s) p.y f in let a = same.0 in let b = same.1 in row_before r p (omega (arith, ints))
     by_case (inl f) (inr below) = let l = to_le (bottom s) p.y f in row_before r p (omega (arith, ints))
     by_case (inr f) (inl same) =
-      let parts = and_parts (int_le s.y p.y) (int_le (right s) p.x) f in
-      let l = to_le s.y p.y parts.0 in let m = to_le (right s) p.x parts.1 in let a = same.0 in let g = same.2 in
-      column_before r p (omega (arith, ints)) (omega (arith, ints))
+        let parts = and_parts (int_le s.y p.y) (int_le (right s) p.x) f in
+        let l = to_le s.y p.y parts.0 in let m = to_le (right s) p.x parts.1 in let a = same.0 in let g = same.2 in
+        column_before r p (omega (arith, ints)) (omega (arith, ints))
     by_case (inr f) (inr below) = let l = to_le s.y p.y (and_parts (int_le s.y p.y) (int_le (right s) p.x) f).0 in row_before r p (omega (arith, ints))
 
 -- those before the point come first
@@ -192,7 +193,7 @@ before_parted rects p h i j d l m e = by_place (cases_lt i j)
 front_none : (rects : List Rect) (k : ℕ) (p : Point) → k ≤ length rects → AllWithin (λ r. is_before r p ≡ true) rects 0 k → any_holds (take k rects) p ≡ false
 front_none rects k p l h =
     any_none (λ r. holds r p) (take k rects) (each_weaker (λ r. is_before r p ≡ true) (λ r. holds r p ≡ false) (λ r e. not_true (holds r p) (before_is r p e)) (take k rects)
-      (recursion_from_All (λ r. is_before r p ≡ true) (take k rects) (λ i d m. let n : i < k = omega (arith, length-take-le k rects l) in ap (λ r. is_before r p) (get_or-take k rects i d n) ∙ h i d (omega arith) n)))
+    (recursion_from_All (λ r. is_before r p ≡ true) (take k rects) (λ i d m. let n : i < k = omega (arith, length-take-le k rects l) in ap (λ r. is_before r p) (get_or-take k rects i d n) ∙ h i d (omega arith) n)))
   where
     not_true : (b : Bool) → (b ≡ true → ⊥) → b ≡ false
     not_true true f = absurd (f refl)
@@ -214,29 +215,36 @@ one_found rects p k r kept h l it =
   where
     not_before : is_before r p ≡ false
     not_before = ap (λ s. is_before s p) it ∙ h.1 k r (omega arith) l
+
     rest_sorted : Pairs Precedes (r ∷ drop (k + 1) rects)
     rest_sorted = subst (Pairs Precedes) (drop_more rects k r l ∙ ap (λ s. s ∷ drop (k + 1) rects) (sym it)) (pairs_right Precedes (take k rects) (drop k rects) (subst (Pairs Precedes) (sym (take-append-drop k rects)) (pairs_of Precedes rects kept.canonical.sorted)))
+
     rest_pixels : Each HasPixels (drop (k + 1) rects)
     rest_pixels = recursion_from_All HasPixels (drop (k + 1) rects) (All-drop HasPixels (k + 1) rects kept.canonical.some_pixels)
+
     not_it : (s : Rect) → HasPixels s → Precedes r s → (b : Bool) → holds s p ≡ b → b ≡ false
     not_it s pixels before false e = refl
     not_it s pixels before true e =
-      let parts = and_parts (spans s.x s.w p.x) (spans s.y s.h p.y) e in
-      absurd (false≢true (sym not_before ∙ precedes_before r s p pixels (low_of s.y p.y s.h parts.1) (low_of s.x p.x s.w parts.0) before))
+        let parts = and_parts (spans s.x s.w p.x) (spans s.y s.h p.y) e in
+        absurd (false≢true (sym not_before ∙ precedes_before r s p pixels (low_of s.y p.y s.h parts.1) (low_of s.x p.x s.w parts.0) before))
+
     none_after : Each (λ s. holds s p ≡ false) (drop (k + 1) rects)
     none_after = each_both HasPixels (Precedes r) (λ s. holds s p ≡ false) (λ s a b. not_it s a b (holds s p) refl) (drop (k + 1) rects) rest_pixels rest_sorted.0
+
     starts_there : holds r p ≡ true → (int_le r.x p.x && int_le r.y p.y) ≡ true
     starts_there e =
-      let parts = and_parts (spans r.x r.w p.x) (spans r.y r.h p.y) e in
-      and_from (int_le r.x p.x) (int_le r.y p.y) (from_le r.x p.x (low_of r.x p.x r.w parts.0)) (from_le r.y p.y (low_of r.y p.y r.h parts.1))
+        let parts = and_parts (spans r.x r.w p.x) (spans r.y r.h p.y) e in
+        and_from (int_le r.x p.x) (int_le r.y p.y) (from_le r.x p.x (low_of r.x p.x r.w parts.0)) (from_le r.y p.y (low_of r.y p.y r.h parts.1))
+
     past_it : (a b : ℤ) → (a ≤ℤ b → is_before r p ≡ true) → b <ℤ a
     past_it a b f = by_lt_z b a (λ m. m) (λ m. absurd (false≢true (sym not_before ∙ f m)))
+
     holds_it : (int_le r.x p.x && int_le r.y p.y) ≡ true → holds r p ≡ true
     holds_it e =
-      let parts = and_parts (int_le r.x p.x) (int_le r.y p.y) e in
-      let x = to_le r.x p.x parts.0 in
-      let y = to_le r.y p.y parts.1 in
-      and_from (spans r.x r.w p.x) (spans r.y r.h p.y) (spans_from r.x p.x r.w x (past_it (right r) p.x (λ m. column_before r p y m))) (spans_from r.y p.y r.h y (past_it (bottom r) p.y (λ m. row_before r p m)))
+        let parts = and_parts (int_le r.x p.x) (int_le r.y p.y) e in
+        let x = to_le r.x p.x parts.0 in
+        let y = to_le r.y p.y parts.1 in
+        and_from (spans r.x r.w p.x) (spans r.y r.h p.y) (spans_from r.x p.x r.w x (past_it (right r) p.x (λ m. column_before r p y m))) (spans_from r.y p.y r.h y (past_it (bottom r) p.y (λ m. row_before r p m)))
 
 -- the moved list of a region's list
 pub moved_region : (d : Point) (xs ys now : List Rect) → ys ≡ map (shifted d) xs → xs ≡ now → IsKept xs → All (λ r. IsInRange (shifted d r)) now → IsKept ys × IsRegionOf ys (λ p. any_holds now (minus p d))
@@ -255,6 +263,6 @@ pub region_split : (n : ℕ) (rects first second region : List Rect) → IsRegio
 region_split n rects first second region h k j = record {
   canonical = j.canonical;
   points = λ p. j.points p
-    ∙ ap (λ b. b || any_holds second p) (h.points p) ∙ ap (λ b. any_holds (take n rects) p || b) (k.points p)
-    ∙ sym (list_any-append (λ r. holds r p) (take n rects) (drop n rects)) ∙ ap (λ xs. any_holds xs p) (take-append-drop n rects);
+      ∙ ap (λ b. b || any_holds second p) (h.points p) ∙ ap (λ b. any_holds (take n rects) p || b) (k.points p)
+      ∙ sym (list_any-append (λ r. holds r p) (take n rects) (drop n rects)) ∙ ap (λ xs. any_holds xs p) (take-append-drop n rects);
 }

@@ -1,16 +1,16 @@
 -- A row that grows at its end.
-use Rattle.std.proofs.Common.{◌≡◌, ℕ, ◌+◌, ◌-◌, ◌<◌, ◌≤◌, zero, suc, Bool, true, false, ◌||◌, List, [], ◌∷◌, ◌++◌, length, get_or, set, take, drop, refl, sym, ap, ◌∙◌, subst, arith}
+use Rattle.std.proofs.Common.{◌≡◌, ℕ, ◌+◌, ◌-◌, ◌<◌, suc, Bool, true, false, ◌||◌, List, [], ◌∷◌, ◌++◌, length, get_or, set, take, refl, sym, ap, ◌∙◌, subst, arith}
 use Rattle.std.specs.Prelude.{ℤ, pos, negsuc, ◌+ℤ◌, ◌<ℤ◌, ◌≤ℤ◌, int_le, int_lt, ◌&&◌}
-use Rattle.std.specs.List.{All, AllPairs, AllByRecursion as Each}
-use Rattle.std.proofs.lemmas.Int.{ints, by_lt_z}
+use Rattle.std.specs.List.{All, AllByRecursion as Each}
+use Rattle.std.proofs.lemmas.Int.{ints}
 use Rattle.std.proofs.lemmas.List.{set_split, set-get_or, drop_all}
 use Rattle.std.proofs.lemmas.List.Elements.{All-from_recursion, recursion_from_All}
 use Rattle.std.proofs.lemmas.List.Folds.{list_any-append}
 use Rattle.qws_base.specs.Points.{spans}
 use Rattle.qws_base.specs.Regions.{right}
 use Rattle.qws_base.specs.declared.points.Rect.{Rect}
-use Rattle.band_regions.specs.Rows.{IsSpan, IsRow, IsBand, IsBandUpTo, IsLevel, IsLeftOf, ReachesAtMost, EndsLeftOf, LastEndsAt, has_column, is_between}
-use Rattle.band_regions.proofs.ListLemmas.{Pairs, pairs_of, all_pairs_of, pairs_append, pairs_left, pairs_across, each_append, each_left, each_right, each_weaker, each_both}
+use Rattle.band_regions.specs.Rows.{IsSpan, IsRow, IsBandUpTo, IsLevel, IsLeftOf, ReachesAtMost, EndsLeftOf, LastEndsAt, has_column, is_between}
+use Rattle.band_regions.proofs.ListLemmas.{Pairs, pairs_of, all_pairs_of, pairs_append, pairs_left, pairs_across, each_append, each_left, each_right, each_weaker}
 
 abbrev pub wider : ℕ → Rect → Rect
 wider more r = record r { w = r.w + more }
@@ -126,4 +126,4 @@ all_apart column xs d n h l =
     let i : ℕ = length xs - 1 in
     let apart : xs ≡ take i xs ++ get_or xs i d ∷ [] = last_apart xs i d (omega arith) in
     All-from_recursion (EndsLeftOf column) xs (subst (Each (EndsLeftOf column)) (sym apart)
-      (apart_by column (take i xs) (get_or xs i d) (subst (Each IsSpan) apart (recursion_from_All IsSpan xs h.each)) (subst (Pairs IsLeftOf) apart (pairs_of IsLeftOf xs h.gapped)) l))
+    (apart_by column (take i xs) (get_or xs i d) (subst (Each IsSpan) apart (recursion_from_All IsSpan xs h.each)) (subst (Pairs IsLeftOf) apart (pairs_of IsLeftOf xs h.gapped)) l))

@@ -1,10 +1,9 @@
 -- A row seen from a column: its next end, what it has there, and what is left of it.
-use Rattle.std.proofs.Common.{◌≡◌, ℕ, ◌+◌, ◌-◌, ◌<◌, zero, suc, Bool, true, false, ◌||◌, List, [], ◌∷◌, ◌++◌, length, get_or, take, drop, refl, sym, ap, ◌∙◌, subst, arith, to_z, of_z, w32}
-use Rattle.std.specs.Prelude.{ℤ, pos, negsuc, ◌+ℤ◌, ◌<ℤ◌, ◌≤ℤ◌, int_le}
-use Rattle.std.specs.List.{All, AllPairs, AllByRecursion as Each}
+use Rattle.std.proofs.Common.{◌≡◌, ◌<◌, true, false, ◌||◌, List, [], ◌∷◌, length, get_or, drop, refl, sym, ap, ◌∙◌, arith, to_z, of_z, w32}
+use Rattle.std.specs.Prelude.{ℤ, pos, ◌<ℤ◌, ◌≤ℤ◌, int_le}
+use Rattle.std.specs.List.{All, AllByRecursion as Each}
 use Rattle.std.proofs.lemmas.Int.{ints, by_lt_z}
-use Rattle.std.proofs.lemmas.List.Elements.{All-from_recursion, recursion_from_All, All-head, All-tail, All-cons}
-use Rattle.qws_base.specs.Points.{spans}
+use Rattle.std.proofs.lemmas.List.Elements.{All-from_recursion, recursion_from_All, All-head, All-tail}
 use Rattle.qws_base.specs.Regions.{right}
 use Rattle.qws_base.specs.declared.points.Rect.{Rect}
 use Rattle.band_regions.specs.Rows.{IsSpan, IsRow, IsRestOfRow, IsLeftOf, EndsRightOf, ReachesRight, has_column}

@@ -1,17 +1,16 @@
 -- The sweep over two rows, column by column at which a span begins or ends.
-use Rattle.std.proofs.Common.{◌≡◌, ℕ, ◌+◌, ◌<◌, Bool, true, false, ◌||◌, ◌&&◌, nat_eq, List, [], ◌∷◌, length, refl, sym, ap, ◌∙◌, arith}
-use Rattle.std.specs.Prelude.{ℤ, pos, negsuc, ◌+ℤ◌, ◌<ℤ◌, ◌≤ℤ◌}
-use Rattle.std.specs.List.{All, AllByRecursion as Each}
+use Rattle.std.proofs.Common.{◌≡◌, ℕ, Bool, true, false, ◌||◌, ◌&&◌, nat_eq, List, [], ◌∷◌, length, refl, sym, ap, ◌∙◌, arith}
+use Rattle.std.specs.Prelude.{ℤ, pos, negsuc, ◌<ℤ◌, ◌≤ℤ◌}
+use Rattle.std.specs.List.{All}
 use Rattle.std.proofs.lemmas.Int.{ints, by_lt_z}
 use Rattle.std.proofs.lemmas.List.Elements.{All-from_recursion, recursion_from_All, All-nil, All-head}
 use Rattle.std.proofs.lemmas.Bool.{eqb-true}
 use Rattle.qws_base.specs.Points.{spans}
-use Rattle.qws_base.specs.Regions.{right}
 use Rattle.qws_base.specs.declared.points.Rect.{Rect}
 use Rattle.band_regions.specs.declared.operations.Operation.{Operation}
 use Rattle.band_regions.specs.declared.operations.Operation.TheVariants.{Unite, Meet, Minus}
 use Rattle.band_regions.specs.Operations.{keeps}
-use Rattle.band_regions.specs.Rows.{IsSpan, IsRow, IsBand, IsBandUpTo, IsLevel, IsLeftOf, IsRestOfRow, EndsRightOf, ReachesRight, ReachesAtMost, has_column, is_between}
+use Rattle.band_regions.specs.Rows.{IsSpan, IsRow, IsBandUpTo, IsLevel, IsRestOfRow, EndsRightOf, ReachesRight, ReachesAtMost, has_column, is_between}
 use Rattle.band_regions.proofs.ListLemmas.{any_none, each_weaker}
 use Rattle.band_regions.proofs.Spanning.{not_before, not_after}
 
@@ -83,11 +82,11 @@ between_yes : (from to c : ℤ) → from ≤ℤ c → c <ℤ to → is_between f
 between_yes from to c l m = grind (arith, ints)
 
 pub combined_more : (operation : Operation) (first second : List Rect) (top : ℤ) (height : ℕ) (x next : ℤ) (f s band more f' s' : List Rect)
-  → IsCombinedTo operation first second top height x f s band → x <ℤ next → next ≤ℤ pos 32768
-  → ((c : ℤ) → x ≤ℤ c → c <ℤ next → has_column f c ≡ has_column f x) → ((c : ℤ) → x ≤ℤ c → c <ℤ next → has_column s c ≡ has_column s x)
-  → IsRestOfRow next f f' → IsRestOfRow next s s' → IsBandUpTo next top height more
-  → ((c : ℤ) → has_column more c ≡ (has_column band c || (keeps operation (has_column f x) (has_column s x) && is_between x next c)))
-  → IsCombinedTo operation first second top height next f' s' more
+    → IsCombinedTo operation first second top height x f s band → x <ℤ next → next ≤ℤ pos 32768
+    → ((c : ℤ) → x ≤ℤ c → c <ℤ next → has_column f c ≡ has_column f x) → ((c : ℤ) → x ≤ℤ c → c <ℤ next → has_column s c ≡ has_column s x)
+    → IsRestOfRow next f f' → IsRestOfRow next s s' → IsBandUpTo next top height more
+    → ((c : ℤ) → has_column more c ≡ (has_column band c || (keeps operation (has_column f x) (has_column s x) && is_between x next c)))
+    → IsCombinedTo operation first second top height next f' s' more
 combined_more operation first second top height x next f s band more f' s' h l m u v k j b columns = record {
   from_start = let low = h.from_start in omega (arith, ints);
   up_to_end = m;
@@ -95,8 +94,8 @@ combined_more operation first second top height x next f s band more f' s' h l m
   second_left = rest_on x next second s s' (omega (arith, ints)) h.second_left j;
   is_band = b;
   columns = λ c below. by_lt_z c x
-    (λ before. columns c ∙ or_and_false (has_column band c) (keeps operation (has_column f x) (has_column s x)) (is_between x next c) (between_no x next c before) ∙ h.columns c before)
-    (λ at. columns c
+      (λ before. columns c ∙ or_and_false (has_column band c) (keeps operation (has_column f x) (has_column s x)) (is_between x next c) (between_no x next c before) ∙ h.columns c before)
+      (λ at. columns c
       ∙ or_and_true (has_column band c) (keeps operation (has_column f x) (has_column s x)) (is_between x next c) (none_past band x c h.is_band.behind at) (between_yes x next c at below)
       ∙ ap (λ t. keeps operation t (has_column s x)) (sym (u c at below) ∙ h.first_left.same c at)
       ∙ ap (λ t. keeps operation (has_column first c) t) (sym (v c at below) ∙ h.second_left.same c at));
@@ -115,12 +114,12 @@ is_kept a true b e = refl
 is_kept a false b e = cc
 
 pub combined_all : (operation : Operation) (first second : List Rect) (top : ℤ) (height : ℕ) (x : ℤ) (f s band : List Rect)
-  → IsCombinedTo operation first second top height x f s band → f ≡ [] → s ≡ [] → (c : ℤ) → has_column band c ≡ keeps operation (has_column first c) (has_column second c)
+    → IsCombinedTo operation first second top height x f s band → f ≡ [] → s ≡ [] → (c : ℤ) → has_column band c ≡ keeps operation (has_column first c) (has_column second c)
 combined_all operation first second top height x f s band h e g c =
     by_lt_z c x (λ before. h.columns c before)
     (λ at. none_past band x c h.is_band.behind at
-      ∙ sym (both_false operation (has_column first c) (has_column second c)
-        (sym (h.first_left.same c at) ∙ ap (λ xs. has_column xs c) e) (sym (h.second_left.same c at) ∙ ap (λ xs. has_column xs c) g)))
+    ∙ sym (both_false operation (has_column first c) (has_column second c)
+    (sym (h.first_left.same c at) ∙ ap (λ xs. has_column xs c) e) (sym (h.second_left.same c at) ∙ ap (λ xs. has_column xs c) g)))
 
 -- where something is left of a row, the sweep is not at its end
 pub more_left : (x : ℤ) (row rest : List Rect) → IsRestOfRow x row rest → false ≡ nat_eq (length rest) 0 → x <ℤ pos 32768

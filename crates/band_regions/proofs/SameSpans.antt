@@ -1,7 +1,7 @@
 -- Two rows of spans with gaps that have the same columns have the same spans.
-use Rattle.std.proofs.Common.{◌≡◌, ℕ, ◌+◌, ◌<◌, zero, suc, Bool, true, false, ◌||◌, ◌⊎◌, List, [], ◌∷◌, map, refl, sym, ap, ◌∙◌, subst, inl, inr, arith}
-use Rattle.std.specs.Prelude.{ℤ, pos, ◌+ℤ◌, ◌<ℤ◌, ◌≤ℤ◌}
-use Rattle.std.specs.List.{AllByRecursion as Each, list_any}
+use Rattle.std.proofs.Common.{◌≡◌, ◌<◌, Bool, true, false, ◌||◌, List, [], ◌∷◌, map, refl, sym, ap, ◌∙◌, arith}
+use Rattle.std.specs.Prelude.{ℤ, ◌<ℤ◌, ◌≤ℤ◌}
+use Rattle.std.specs.List.{AllByRecursion as Each}
 use Rattle.std.proofs.lemmas.Int.{ints, by_lt_z}
 use Rattle.std.proofs.lemmas.Bool.{false≢true}
 use Rattle.qws_base.specs.Points.{spans}
@@ -9,7 +9,7 @@ use Rattle.qws_base.specs.Regions.{right, span_of}
 use Rattle.qws_base.specs.declared.points.Rect.{Rect}
 use Rattle.band_regions.specs.Rows.{has_column, IsLeftOf}
 use Rattle.band_regions.proofs.ListLemmas.{Pairs, any_none, each_weaker}
-use Rattle.band_regions.proofs.Spanning.{low_of, high_of, spans_from, not_before, not_after}
+use Rattle.band_regions.proofs.Spanning.{high_of, spans_from, not_before, not_after}
 
 abbrev pub IsWide : Rect → Type 0
 IsWide r = 0 < r.w

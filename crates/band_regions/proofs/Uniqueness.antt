@@ -1,7 +1,7 @@
 -- A canonical list is determined by its points.
-use Rattle.std.proofs.Common.{◌≡◌, ℕ, ◌+◌, ◌<◌, zero, suc, Bool, true, false, ◌⊎◌, List, [], ◌∷◌, map, refl, sym, ap, ◌∙◌, subst, inl, inr, arith}
+use Rattle.std.proofs.Common.{◌≡◌, ℕ, ◌<◌, Bool, true, false, ◌⊎◌, List, [], ◌∷◌, map, refl, sym, ap, ◌∙◌, subst, inl, inr, arith}
 use Rattle.std.specs.Prelude.{ℤ, pos, ◌+ℤ◌, ◌-ℤ◌, ◌<ℤ◌, ◌≤ℤ◌}
-use Rattle.std.specs.List.{AllByRecursion as Each, filter, list_any}
+use Rattle.std.specs.List.{AllByRecursion as Each, filter}
 use Rattle.std.specs.Ordering.{int_eq}
 use Rattle.std.proofs.lemmas.Int.{ints, by_lt_z}
 use Rattle.std.proofs.lemmas.Bool.{false≢true, and_parts, and_from}
@@ -49,19 +49,19 @@ same_left set r s p q h k =
     let high = high_of s.x r.x s.w k in
     by_lt_z s.x r.x
     (λ l. absurd (false≢true (sym (p.left_out r.y (spans_from r.y r.y r.h (omega (arith, ints)) (omega (arith, ints, p.pixels.1))))
-      ∙ q.inside (r.x -ℤ pos 1) r.y (spans_from s.x (r.x -ℤ pos 1) s.w (omega (arith, ints)) (omega (arith, ints))) h)))
+    ∙ q.inside (r.x -ℤ pos 1) r.y (spans_from s.x (r.x -ℤ pos 1) s.w (omega (arith, ints)) (omega (arith, ints))) h)))
     (λ l. omega (arith, ints))
 
 not_shorter : (set : Point → Bool) (r s : Rect) → IsPiece set r → IsPiece set s → s.y ≡ r.y → s.x ≡ r.x → r.w < s.w → ⊥
 not_shorter set r s p q e f l =
     false≢true (sym (p.right_out r.y (spans_from r.y r.y r.h (omega (arith, ints)) (omega (arith, ints, p.pixels.1))))
-      ∙ q.inside (right r) r.y (spans_from s.x (right r) s.w (omega (arith, ints)) (omega (arith, ints))) (spans_from s.y r.y s.h (omega (arith, ints)) (omega (arith, ints, q.pixels.1))))
+    ∙ q.inside (right r) r.y (spans_from s.x (right r) s.w (omega (arith, ints)) (omega (arith, ints))) (spans_from s.y r.y s.h (omega (arith, ints)) (omega (arith, ints, q.pixels.1))))
 
 not_lower : (set : Point → Bool) (r s : Rect) → IsPiece set r → IsPiece set s → s.y ≡ r.y → r.h < s.h → ⊥
 not_lower set r s p q e l =
     p.below_differs (λ x. q.alike x (bottom r -ℤ pos 1) (bottom r)
-      (spans_from s.y (bottom r -ℤ pos 1) s.h (omega (arith, ints, p.pixels.1)) (omega (arith, ints)))
-      (spans_from s.y (bottom r) s.h (omega (arith, ints)) (omega (arith, ints))))
+    (spans_from s.y (bottom r -ℤ pos 1) s.h (omega (arith, ints, p.pixels.1)) (omega (arith, ints)))
+    (spans_from s.y (bottom r) s.h (omega (arith, ints)) (omega (arith, ints))))
 
 same_piece : (set : Point → Bool) (r s : Rect) → IsPiece set r → IsPiece set s → holds s (at r.x r.y) ≡ true → s ≡ r
 same_piece set r s p q h =
@@ -134,10 +134,13 @@ left_gap rects r s y g m h k = by_place (mate rects r s y g m k.member h k.row).
   where
     pixels : HasPixels s
     pixels = each_in HasPixels rects s g.pixels k.member
+
     low : s.x ≤ℤ (r.x -ℤ pos 1)
     low = low_of s.x (r.x -ℤ pos 1) s.w k.column
+
     high : (r.x -ℤ pos 1) <ℤ right s
     high = high_of s.x (r.x -ℤ pos 1) s.w k.column
+
     by_place : (s ≡ r) ⊎ ((right r <ℤ s.x) ⊎ (right s <ℤ r.x)) → ⊥
     by_place (inl e) = let f : s.x ≡ r.x = ap (λ t. t.x) e in omega (arith, ints, low)
     by_place (inr (inl l)) = omega (arith, ints, low)
@@ -148,8 +151,10 @@ right_gap rects r s y g m h k = by_place (mate rects r s y g m k.member h k.row)
   where
     low : s.x ≤ℤ right r
     low = low_of s.x (right r) s.w k.column
+
     high : right r <ℤ right s
     high = high_of s.x (right r) s.w k.column
+
     by_place : (s ≡ r) ⊎ ((right r <ℤ s.x) ⊎ (right s <ℤ r.x)) → ⊥
     by_place (inl e) = let f : right s ≡ right r = ap right e in omega (arith, ints, high)
     by_place (inr (inl l)) = omega (arith, ints, low)
@@ -186,25 +191,25 @@ row_above : (rects : List Rect) (y c : ℤ) → IsGood rects → IsCut rects y �
 row_above rects y c g cut =
     same_bools (has_column (filter (ends_at y) rects) c) (any_holds rects (at c (y -ℤ pos 1)))
     (λ e. let found = any_in (λ r. spans r.x r.w c) (filter (ends_at y) rects) e in
-      let s = found.0 in
-      let member = in_filter (ends_at y) rects s found.1 in
-      let its : bottom s ≡ y = test_eq (bottom s) y (passes_in (ends_at y) rects s found.1) in
-      held rects c (y -ℤ pos 1) s (record { member = member; column = found.2; row = subst (λ z. spans s.y s.h (z -ℤ pos 1) ≡ true) its (last_row s (each_in HasPixels rects s g.pixels member)) }))
+    let s = found.0 in
+    let member = in_filter (ends_at y) rects s found.1 in
+    let its : bottom s ≡ y = test_eq (bottom s) y (passes_in (ends_at y) rects s found.1) in
+    held rects c (y -ℤ pos 1) s (record { member = member; column = found.2; row = subst (λ z. spans s.y s.h (z -ℤ pos 1) ≡ true) its (last_row s (each_in HasPixels rects s g.pixels member)) }))
     (λ e. let found = holder rects c (y -ℤ pos 1) e in
-      let s = found.0 in
-      any_from_in (λ r. spans r.x r.w c) (filter (ends_at y) rects) s (filter_in (ends_at y) rects s found.1.member (eq_test (bottom s) y (cut.above s found.1.member found.1.row))) found.1.column)
+    let s = found.0 in
+    any_from_in (λ r. spans r.x r.w c) (filter (ends_at y) rects) s (filter_in (ends_at y) rects s found.1.member (eq_test (bottom s) y (cut.above s found.1.member found.1.row))) found.1.column)
 
 row_below : (rects : List Rect) (y c : ℤ) → IsGood rects → IsCut rects y → has_column (filter (starts_at y) rects) c ≡ any_holds rects (at c y)
 row_below rects y c g cut =
     same_bools (has_column (filter (starts_at y) rects) c) (any_holds rects (at c y))
     (λ e. let found = any_in (λ r. spans r.x r.w c) (filter (starts_at y) rects) e in
-      let s = found.0 in
-      let member = in_filter (starts_at y) rects s found.1 in
-      let its : s.y ≡ y = test_eq s.y y (passes_in (starts_at y) rects s found.1) in
-      held rects c y s (record { member = member; column = found.2; row = subst (λ z. spans s.y s.h z ≡ true) its (first_row s (each_in HasPixels rects s g.pixels member)) }))
+    let s = found.0 in
+    let member = in_filter (starts_at y) rects s found.1 in
+    let its : s.y ≡ y = test_eq s.y y (passes_in (starts_at y) rects s found.1) in
+    held rects c y s (record { member = member; column = found.2; row = subst (λ z. spans s.y s.h z ≡ true) its (first_row s (each_in HasPixels rects s g.pixels member)) }))
     (λ e. let found = holder rects c y e in
-      let s = found.0 in
-      any_from_in (λ r. spans r.x r.w c) (filter (starts_at y) rects) s (filter_in (starts_at y) rects s found.1.member (eq_test s.y y (cut.below s found.1.member found.1.row))) found.1.column)
+    let s = found.0 in
+    any_from_in (λ r. spans r.x r.w c) (filter (starts_at y) rects) s (filter_in (starts_at y) rects s found.1.member (eq_test s.y y (cut.below s found.1.member found.1.row))) found.1.column)
 
 wide : (test : Rect → Bool) (rects : List Rect) → IsGood rects → Each IsWide (filter test rects)
 wide test rects g = each_weaker HasPixels IsWide (λ r p. p.0) (filter test rects) (each_filter HasPixels test rects g.pixels)
@@ -239,6 +244,7 @@ cut_above rects r g m = record {
   where
     pixels : HasPixels r
     pixels = each_in HasPixels rects r g.pixels m
+
     ends : (s : Rect) → In s rects → s.y ≤ℤ (r.y -ℤ pos 1) → (r.y -ℤ pos 1) <ℤ bottom s → ((s.y ≡ r.y) × (s.h ≡ r.h)) ⊎ ((bottom r ≤ℤ s.y) ⊎ (bottom s ≤ℤ r.y)) → bottom s ≡ r.y
     ends s n l k (inl e) = absurd (omega (arith, ints, e.0))
     ends s n l k (inr (inl e)) = absurd (omega (arith, ints))
@@ -252,6 +258,7 @@ cut_below rects r g m = record {
   where
     pixels : HasPixels r
     pixels = each_in HasPixels rects r g.pixels m
+
     starts : (s : Rect) → In s rects → s.y ≤ℤ bottom r → bottom r <ℤ bottom s → ((s.y ≡ r.y) × (s.h ≡ r.h)) ⊎ ((bottom r ≤ℤ s.y) ⊎ (bottom s ≤ℤ r.y)) → s.y ≡ bottom r
     starts s n l k (inl e) = let f : bottom s ≡ bottom r = ap (λ t. t +ℤ pos s.h) e.0 ∙ ap (λ t. r.y +ℤ pos t) e.1 in absurd (omega (arith, ints, f))
     starts s n l k (inr (inl e)) = omega (arith, ints)
@@ -273,8 +280,8 @@ piece rects r g m = record {
   alike = λ x y z h k. same_bools (any_holds rects (at x y)) (any_holds rects (at x z)) (alike_one rects r x y z g m h k) (alike_one rects r x z y g m k h);
   above_differs = λ same. empty_has_none (filter (starts_at r.y) rects) r (g.unmerged r.y (same_at_cut rects r.y g (cut_above rects r g m) same)) (filter_in (starts_at r.y) rects r m (eq_test r.y r.y refl));
   below_differs = λ same.
-    let spans_same = same_at_cut rects (bottom r) g (cut_below rects r g m) same in
-    empty_has_none (filter (ends_at (bottom r)) rects) r (nil_of_map (filter (ends_at (bottom r)) rects) (spans_same ∙ ap (map span_of) (g.unmerged (bottom r) spans_same))) (filter_in (ends_at (bottom r)) rects r m (eq_test (bottom r) (bottom r) refl));
+      let spans_same = same_at_cut rects (bottom r) g (cut_below rects r g m) same in
+      empty_has_none (filter (ends_at (bottom r)) rects) r (nil_of_map (filter (ends_at (bottom r)) rects) (spans_same ∙ ap (map span_of) (g.unmerged (bottom r) spans_same))) (filter_in (ends_at (bottom r)) rects r m (eq_test (bottom r) (bottom r) refl));
 }
   where
     pixels : HasPixels r
@@ -302,6 +309,7 @@ same_members (x ∷ xs) (y ∷ ys) p g q k f h =
         not_first : In r (b ∷ ls) → In r ls
         not_first (inl same) = let self : Precedes a a = subst (Precedes a) (same ∙ sym e) (each_in (Precedes a) ks r before m) in absurd (precedes_not_both a a pixels pixels self self)
         not_first (inr n) = n
+
     by_heads : In x (y ∷ ys) → In y (x ∷ xs) → (x ≡ y → (x ∷ xs) ≡ (y ∷ ys)) → (x ∷ xs) ≡ (y ∷ ys)
     by_heads (inl e) n then = then e
     by_heads (inr m) (inl e) then = then (sym e)

@@ -1,5 +1,5 @@
 -- Bands from the top, and how far a sweep over the rows has come.
-use Rattle.std.specs.Prelude.{ℕ, ◌≡◌, ◌≤◌, ◌+◌, ℤ, ◌<ℤ◌, ◌≤ℤ◌, Bool, List, [], map, take, drop, length, All, AllPairs}
+use Rattle.std.specs.Prelude.{ℕ, ◌≡◌, ◌≤◌, ◌+◌, ℤ, ◌<ℤ◌, ◌≤ℤ◌, List, [], map, take, drop, length, All, AllPairs}
 use Rattle.std.specs.List.{filter}
 use Rattle.qws_base.specs.Points.{any_holds}
 use Rattle.qws_base.specs.Regions.{HasPixels, Precedes, bottom, starts_at, ends_at, span_of}

@@ -1,5 +1,5 @@
 -- Where coordinates may be: from 32,768 before the origin to 32,767 past it, and ends up to 32,768.
-use Rattle.std.specs.Prelude.{ℕ, ℤ, pos, negsuc, ◌≤ℤ◌, int_le, Bool, ◌&&◌, ◌||◌, All, List}
+use Rattle.std.specs.Prelude.{ℤ, pos, negsuc, ◌≤ℤ◌, int_le, Bool, ◌&&◌, ◌||◌, All, List}
 use Rattle.qws_base.specs.Regions.{right, bottom, IsCanonical}
 use Rattle.qws_base.specs.declared.points.Point.{Point}
 use Rattle.qws_base.specs.declared.points.Rect.{Rect}

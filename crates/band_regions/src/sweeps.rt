@@ -34,7 +34,14 @@ pub fn sweep(
     while !first.is_empty() || !second.is_empty() {
         let next = next_row(first, y).min(next_row(second, y));
         let height = distance(y, next);
-        combine(&mut band, operation, row_at(first, y), row_at(second, y), y, height)?;
+        combine(
+            &mut band,
+            operation,
+            row_at(first, y),
+            row_at(second, y),
+            y,
+            height,
+        )?;
         last = close_band(&mut rects, last, &band, y, height)?;
         first = past_row(first, next);
         second = past_row(second, next);

@@ -1,5 +1,4 @@
 use Rattle.std.proofs.Common.{◌≡◌, to_z, of_z, w32, arith}
-use Rattle.std.specs.Prelude.{ℤ}
 use Rattle.std.proofs.lemmas.Int.{ints}
 use Rattle.std.proofs.lemmas.List.Elements.{All-more}
 use Rattle.qws_base.specs.declared.points.Rect.{Rect}

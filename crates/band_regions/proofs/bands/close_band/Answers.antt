@@ -1,4 +1,4 @@
-use Rattle.std.proofs.Common.{◌≡◌, ◌∙◌, ℕ, ap, sym, subst, length, ◌++◌, refl, arith}
+use Rattle.std.proofs.Common.{◌≡◌, subst, length, ◌++◌, refl, arith}
 use Rattle.std.specs.Prelude.{pos, ◌+ℤ◌}
 use Rattle.std.proofs.lemmas.Int.{ints}
 use Rattle.std.proofs.lemmas.List.{take_rest}
@@ -21,4 +21,4 @@ pub returns-clause-swept : goal.returns-clause-swept
 returns-clause-swept c =
     let n : length c.args.rects.now.items ≡ c.len-start.result = omega (arith, c.args.rects.now.ok.0, c.len-start.ensures) in
     rw c.in_ok-extend_from_slice.ensures.items (subst (λ k. IsSweptTo (c.args.top +ℤ pos c.args.height) k (c.args.rects.now.items ++ c.args.band.now)) n
-      (swept_more c.args.top c.args.height c.args.last c.args.rects.now.items c.args.band.now c.requires.swept c.requires.some c.requires.low c.requires.high c.requires.is_band (λ e. let f = c.if-has_same_spans.ensures.1 (rw (c.deref.ensures.value, take_rest) e) in cc)))
+    (swept_more c.args.top c.args.height c.args.last c.args.rects.now.items c.args.band.now c.requires.swept c.requires.some c.requires.low c.requires.high c.requires.is_band (λ e. let f = c.if-has_same_spans.ensures.1 (rw (c.deref.ensures.value, take_rest) e) in cc)))

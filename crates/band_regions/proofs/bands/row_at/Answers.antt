@@ -2,7 +2,7 @@ use Rattle.std.proofs.Common.{arith, sym}
 use Rattle.std.proofs.lemmas.Int.{ints}
 use Rattle.band_regions.specs.Bands.{in_row}
 use Rattle.band_regions.proofs.RowLemmas.{no_rect}
-use Rattle.band_regions.proofs.BandLemmas.{cast_y, tops, first_band, IsRowAt, row_of_first, none_above}
+use Rattle.band_regions.proofs.BandLemmas.{cast_y, tops, first_band, row_of_first, none_above}
 use Rattle.band_regions.proofs.bands.row_at.Goals as goal
 
 pub band_len-requires-clause-top : goal.band_len-requires-clause-top

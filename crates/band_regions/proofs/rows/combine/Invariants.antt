@@ -1,4 +1,3 @@
-use Rattle.std.proofs.Common.{ℕ}
 use Rattle.std.specs.Prelude.{pos, ◌-ℤ◌, nat_abs}
 use Rattle.band_regions.proofs.RowSweep.{IsCombinedTo}
 use Rattle.band_regions.proofs.rows.combine.Given as goal

@@ -1,6 +1,5 @@
-use Rattle.std.proofs.Common.{◌≡◌, ◌∙◌, sym, ap, to_z, of_z, w32, arith}
+use Rattle.std.proofs.Common.{◌≡◌, ◌∙◌, sym, to_z, of_z, w32, arith}
 use Rattle.std.proofs.lemmas.Int.{ints}
-use Rattle.qws_base.specs.Regions.{right}
 use Rattle.band_regions.proofs.RowLemmas.{no_rect, cast_x, reach_before, reach_inside, none_before}
 use Rattle.band_regions.proofs.rows.next_column.Goals as goal
 

@@ -1,7 +1,5 @@
-use Rattle.std.proofs.Common.{◌≡◌, ◌∙◌, ap, subst, to_z, of_z, w32, arith}
-use Rattle.std.specs.List.{All}
+use Rattle.std.proofs.Common.{◌≡◌, to_z, of_z, w32, arith}
 use Rattle.std.proofs.lemmas.Int.{ints}
-use Rattle.band_regions.specs.Rows.{LastEndsAt, EndsLeftOf, has_column}
 use Rattle.band_regions.proofs.RowEnds.{widened_band, widened_columns, pushed_band, pushed_columns}
 use Rattle.band_regions.proofs.rows.push_span.Goals as goal
 

@@ -11,4 +11,4 @@ pub returns-in-len1-up-clause-apart : goal.returns-in-len1-up-clause-apart
 returns-in-len1-up-clause-apart c =
     OnFalse_from (nat_eq (of_z w32 c.right_end.result) (of_z w32 c.args.column)) (All (EndsLeftOf c.args.column) c.args.row.now)
     (λ e. all_apart c.args.column c.args.row.now no_rect (omega arith) c.requires.is_row
-      (omega (arith, ints, eqb-false (of_z w32 c.right_end.result) (of_z w32 c.args.column) e, c.right_end.ensures, c.requires.behind (length c.args.row.now - 1) no_rect (omega arith))))
+    (omega (arith, ints, eqb-false (of_z w32 c.right_end.result) (of_z w32 c.args.column) e, c.right_end.ensures, c.requires.behind (length c.args.row.now - 1) no_rect (omega arith))))

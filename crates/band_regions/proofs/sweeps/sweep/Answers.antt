@@ -10,8 +10,9 @@ loop-first-init c = rw c.new-rects.ensures.items (swept_none c.args.operation c.
 
 pub next_row-requires-clause-low : goal.next_row-requires-clause-low
 next_row-requires-clause-low c = elim c.if-not-is_empty.branch [
-    then-not-is_empty w ↦ more_left (to_z w32 c.loop-first.y-bits) c.args.first.now c.loop-first.first.now c.loop-first.invariant.first_left w.if-not-is_empty.ensures
-  | else-not-is_empty+then-not-is_empty-2 w ↦ more_left (to_z w32 c.loop-first.y-bits) c.args.second.now c.loop-first.second.now c.loop-first.invariant.second_left w.if-not-is_empty-2.ensures ]
+  | then-not-is_empty w ↦ more_left (to_z w32 c.loop-first.y-bits) c.args.first.now c.loop-first.first.now c.loop-first.invariant.first_left w.if-not-is_empty.ensures
+  | else-not-is_empty+then-not-is_empty-2 w ↦ more_left (to_z w32 c.loop-first.y-bits) c.args.second.now c.loop-first.second.now c.loop-first.invariant.second_left w.if-not-is_empty-2.ensures
+]
 
 pub distance-height-requires-clause-ordered : goal.distance-height-requires-clause-ordered
 distance-height-requires-clause-ordered c = omega (arith, ints, clamps, c.next_row.ensures.after, c.next_row-in-loop-first.ensures.after, c.min-next.ensures.value)
@@ -38,18 +39,18 @@ pub loop-first-preserved : goal.loop-first-preserved
 loop-first-preserved c =
     let next : to_z w32 (of_z w32 c.min-next.result) ≡ c.min-next.result = omega (arith, ints) in
     rw next (swept_step c.args.operation c.args.first.now c.args.second.now (to_z w32 c.loop-first.y-bits) c.min-next.result c.distance-height.result c.loop-first.last c.in_ok-last.last
-      c.loop-first.first.now c.loop-first.second.now c.loop-first.rects.items c.combine.new.band.items c.close_band.new.rects.items
-      c.row_at.result.now c.row_at-in-loop-first.result.now c.past_row-first.result.now c.past_row-second.result.now
-      c.loop-first.invariant
-      (omega (arith, ints, clamps, c.next_row.ensures.after, c.next_row-in-loop-first.ensures.after, c.min-next.ensures.value))
-      (omega (arith, ints, clamps, c.next_row.ensures.within, c.min-next.ensures.value))
-      (rw next at c.distance-height.ensures)
-      (λ p l m. c.next_row.ensures.uniform p l (omega (arith, ints, clamps, m, c.min-next.ensures.value)))
-      (λ p l m. c.next_row-in-loop-first.ensures.uniform p l (omega (arith, ints, clamps, m, c.min-next.ensures.value)))
-      c.row_at.ensures.columns c.row_at-in-loop-first.ensures.columns
-      c.in_ok-combine.ensures.band c.in_ok-combine.ensures.columns
-      c.in_ok-last.ensures.swept (λ p. rw c.deref.ensures.value at (c.in_ok-last.ensures.points p))
-      (rw next at c.past_row-first.ensures) (rw next at c.past_row-second.ensures))
+    c.loop-first.first.now c.loop-first.second.now c.loop-first.rects.items c.combine.new.band.items c.close_band.new.rects.items
+    c.row_at.result.now c.row_at-in-loop-first.result.now c.past_row-first.result.now c.past_row-second.result.now
+    c.loop-first.invariant
+    (omega (arith, ints, clamps, c.next_row.ensures.after, c.next_row-in-loop-first.ensures.after, c.min-next.ensures.value))
+    (omega (arith, ints, clamps, c.next_row.ensures.within, c.min-next.ensures.value))
+    (rw next at c.distance-height.ensures)
+    (λ p l m. c.next_row.ensures.uniform p l (omega (arith, ints, clamps, m, c.min-next.ensures.value)))
+    (λ p l m. c.next_row-in-loop-first.ensures.uniform p l (omega (arith, ints, clamps, m, c.min-next.ensures.value)))
+    c.row_at.ensures.columns c.row_at-in-loop-first.ensures.columns
+    c.in_ok-combine.ensures.band c.in_ok-combine.ensures.columns
+    c.in_ok-last.ensures.swept (λ p. rw c.deref.ensures.value at (c.in_ok-last.ensures.points p))
+    (rw next at c.past_row-first.ensures) (rw next at c.past_row-second.ensures))
 
 pub returns-clause-points : goal.returns-clause-points
 returns-clause-points c =
