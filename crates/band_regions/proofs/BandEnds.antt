@@ -1,8 +1,7 @@
 -- A list of bands that grows at its end: by a new band, or by rows of the last one.
-use Rattle.std.proofs.Common.{◌≡◌, ℕ, ◌+◌, ◌-◌, ◌<◌, ◌≤◌, Bool, true, false, cond, ◌||◌, ◌&&◌, ◌⊎◌, List, [], ◌∷◌, ◌++◌, length, get_or, set, map, take, drop, refl, sym, ap, ◌∙◌, subst, inl, inr, arith, append_assoc}
+use Rattle.std.proofs.Common.{◌≡◌, ℕ, ◌+◌, ◌-◌, ◌<◌, ◌≤◌, Bool, true, false, ◌||◌, ◌&&◌, ◌⊎◌, List, [], ◌∷◌, ◌++◌, length, get_or, set, map, take, drop, refl, sym, ap, ◌∙◌, subst, inl, inr, arith, append_assoc}
 use Rattle.std.specs.Prelude.{ℤ, pos, negsuc, ◌+ℤ◌, ◌<ℤ◌, ◌≤ℤ◌}
 use Rattle.std.specs.List.{AllByRecursion as Each, filter}
-use Rattle.std.specs.Ordering.{int_eq}
 use Rattle.std.proofs.lemmas.Int.{ints, by_lt_z}
 use Rattle.std.proofs.lemmas.List.{take-append-drop, drop_more, take_at, drop_at, set_at, get_or_at, map_more, get_or-map, map-append, length-append, length-map, length-take-le, append-nil}
 use Rattle.std.proofs.lemmas.List.Elements.{All-from_recursion, recursion_from_All, filter-append}
@@ -14,8 +13,10 @@ use Rattle.qws_base.specs.declared.points.Rect.{Rect}
 use Rattle.band_regions.specs.Ranges.{IsInRange}
 use Rattle.band_regions.specs.Rows.{IsSpan, IsBand, IsLevel, IsLeftOf}
 use Rattle.band_regions.specs.Bands.{IsUnmerged, IsSweptTo, taller}
-use Rattle.band_regions.proofs.ListLemmas.{Pairs, pairs_of, pairs_append, pairs_left, pairs_right, pairs_across, pairs_under, each_append, each_left, each_right, each_both, each_weaker, filter_none, filter_all}
+use Rattle.band_regions.proofs.ListLemmas.{pairs_of, pairs_append, pairs_left, pairs_right, pairs_across, pairs_under, each_append, each_left, each_right, each_both, each_weaker, filter_none, filter_all, each_map, pairs_map, filter-map, nil_of_map}
 use Rattle.band_regions.proofs.BandLemmas.{IsStacked, stacked, banded}
+use Rattle.band_regions.proofs.Bools.{or_assoc}
+use Rattle.band_regions.proofs.Spanning.{is_equal, different}
 
 -- ---- equal spans, place by place
 
@@ -88,10 +89,6 @@ all_ended y before end h =
 all_above : (y : ℤ) (before end : List Rect) → IsGrown y before end → Each (λ r. r.y <ℤ y) (before ++ end)
 all_above y before end h = each_both HasPixels (λ r. bottom r ≤ℤ y) (λ r. r.y <ℤ y) (λ r p k. let q = p.1 in omega (arith, ints)) (before ++ end) h.stack.pixels (all_ended y before end h)
 
-different : (a b : ℤ) → (a <ℤ b) ⊎ (b <ℤ a) → int_eq a b ≡ false
-different a b (inl l) = grind (arith, ints)
-different a b (inr l) = grind (arith, ints)
-
 -- ---- nothing is added
 
 pub swept_on : (y next : ℤ) (last : ℕ) (rects : List Rect) → y <ℤ next → IsSweptTo y last rects → IsSweptTo next (length rects) rects
@@ -143,9 +140,6 @@ none_starts z xs h = filter_none (starts_at z) xs (each_weaker (λ r. r.y <ℤ z
 none_ends : (z : ℤ) (xs : List Rect) → Each (λ r. (bottom r <ℤ z) ⊎ (z <ℤ bottom r)) xs → filter (ends_at z) xs ≡ []
 none_ends z xs h = filter_none (ends_at z) xs (each_weaker (λ r. (bottom r <ℤ z) ⊎ (z <ℤ bottom r)) (λ r. ends_at z r ≡ false) (λ r l. different (bottom r) z l) xs h)
 
-is_equal : (a b : ℤ) → a ≡ b → int_eq a b ≡ true
-is_equal a b e = grind (arith, ints)
-
 unmerged_more : (y : ℤ) (height : ℕ) (before end band : List Rect) → 0 < height → IsGrown y before end → IsNewBand y height band → (map span_of end ≡ map span_of band → ⊥) → IsUnmerged ((before ++ end) ++ band)
 unmerged_more y height before end band some h k differs z same =
     by_lt_z z y
@@ -190,31 +184,9 @@ swept_more y height last rects band h some low high b differs =
 
 -- ---- the last band grows
 
-each_map : (P Q : Rect → Type 0) (f : Rect → Rect) → ((r : Rect) → P r → Q (f r)) → (xs : List Rect) → Each P xs → Each Q (map f xs)
-each_map P Q f g [] h = tt
-each_map P Q f g (x ∷ xs) h = (g x h.0, each_map P Q f g xs h.1)
-
-pairs_map : (P : Rect → Type 0) (f : Rect → Rect) → ((r s : Rect) → P r → P s → Precedes r s → Precedes (f r) (f s)) → (xs : List Rect) → Each P xs → Pairs Precedes xs → Pairs Precedes (map f xs)
-pairs_map P f g [] h k = tt
-pairs_map P f g (x ∷ xs) h k = (each_map (λ s. P s × Precedes x s) (Precedes (f x)) f (λ s m. g x s h.0 m.0 m.1) xs (each_both P (Precedes x) (λ s. P s × Precedes x s) (λ s p q. (p, q)) xs h.1 k.0), pairs_map P f g xs h.1 k.1)
-
-cond_map : (f : Rect → Rect) (b : Bool) (x : Rect) (xs ys : List Rect) → xs ≡ map f ys → cond b (f x ∷ xs) xs ≡ map f (cond b (x ∷ ys) ys)
-cond_map f true x xs ys e = ap (λ zs. f x ∷ zs) e
-cond_map f false x xs ys e = e
-
-filter-map : (test : Rect → Bool) (f : Rect → Rect) (xs : List Rect) → ((r : Rect) → test (f r) ≡ test r) → filter test (map f xs) ≡ map f (filter test xs)
-filter-map test f [] same = refl
-filter-map test f (x ∷ xs) same =
-    ap (λ b. cond b (f x ∷ filter test (map f xs)) (filter test (map f xs))) (same x)
-    ∙ cond_map f (test x) x (filter test (map f xs)) (filter test xs) (filter-map test f xs same)
-
 spans_taller : (height : ℕ) (xs : List Rect) → map span_of (map (taller height) xs) ≡ map span_of xs
 spans_taller height [] = refl
 spans_taller height (x ∷ xs) = ap (λ ys. span_of x ∷ ys) (spans_taller height xs)
-
-nil_of_map : (xs : List Rect) → map span_of xs ≡ [] → xs ≡ []
-nil_of_map [] e = refl
-nil_of_map (x ∷ xs) e = cc
 
 taller_in_band : (y : ℤ) (height : ℕ) (r s : Rect) → HasPixels r × (bottom r ≡ y) → HasPixels s × (bottom s ≡ y) → Precedes r s → Precedes (taller height r) (taller height s)
 taller_in_band y height r s h k (inl same) = inl (same.0, ap (λ n. n + height) same.1, same.2)
@@ -235,7 +207,7 @@ stacked_taller y height before end high h =
       pixels = each_append HasPixels before (map (taller height) end) (each_left HasPixels before end h.stack.pixels)
           (each_map HasPixels HasPixels (taller height) (λ r p. let q = p.1 in (p.0, omega arith)) end pixels);
       sorted = pairs_append Precedes before (map (taller height) end) (pairs_left Precedes before end h.stack.sorted)
-          (pairs_map (λ r. HasPixels r × (bottom r ≡ y)) (taller height) (taller_in_band y height) end known (pairs_right Precedes before end h.stack.sorted))
+          (pairs_map (λ r. HasPixels r × (bottom r ≡ y)) Precedes (taller height) (taller_in_band y height) end known (pairs_right Precedes before end h.stack.sorted))
           (each_both (λ r. bottom r <ℤ y) (λ r. Each (Precedes r) end) (λ r. Each (Precedes r) (map (taller height) end))
           (λ r l m. each_map (λ s. (bottom s ≡ y) × Precedes r s) (Precedes r) (taller height) (λ s k. taller_below y height r s l k.0 k.1) end (each_both (λ s. bottom s ≡ y) (Precedes r) (λ s. (bottom s ≡ y) × Precedes r s) (λ s p q. (p, q)) end h.ending m))
           before h.ended (pairs_across Precedes before end h.stack.sorted));
@@ -244,7 +216,7 @@ stacked_taller y height before end high h =
 -- which spans start at a row is as before
 starts_taller : (z : ℤ) (height : ℕ) (before end : List Rect) → map span_of (filter (starts_at z) (before ++ map (taller height) end)) ≡ map span_of (filter (starts_at z) (before ++ end))
 starts_taller z height before end =
-    ap (map span_of) (filter-append (starts_at z) before (map (taller height) end) ∙ ap (λ xs. filter (starts_at z) before ++ xs) (filter-map (starts_at z) (taller height) end (λ r. refl)))
+    ap (map span_of) (filter-append (starts_at z) before (map (taller height) end) ∙ ap (λ xs. filter (starts_at z) before ++ xs) (filter-map (starts_at z) (starts_at z) (taller height) end (λ r. refl)))
     ∙ map-append span_of (filter (starts_at z) before) (map (taller height) (filter (starts_at z) end))
     ∙ ap (λ xs. map span_of (filter (starts_at z) before) ++ xs) (spans_taller height (filter (starts_at z) end))
     ∙ sym (map-append span_of (filter (starts_at z) before) (filter (starts_at z) end))
@@ -266,7 +238,7 @@ unmerged_taller y height before end some h z same =
     without_end (ends_at z) before (map (taller height) end) (none_ends z (map (taller height) end) (each_weaker (λ r. bottom r ≡ (y +ℤ pos height)) (λ r. (bottom r <ℤ z) ⊎ (z <ℤ bottom r)) (λ r e. inr (omega (arith, ints))) (map (taller height) end) (ends_taller y height end h.ending))) in
     let was : filter (ends_at z) (before ++ end) ≡ filter (ends_at z) before =
     without_end (ends_at z) before end (none_ends z end (each_weaker (λ r. bottom r ≡ y) (λ r. (bottom r <ℤ z) ⊎ (z <ℤ bottom r)) (λ r e. inr (omega (arith, ints))) end h.ending)) in
-    nil_of_map (filter (starts_at z) (before ++ map (taller height) end))
+    nil_of_map span_of (filter (starts_at z) (before ++ map (taller height) end))
     (starts_taller z height before end ∙ ap (map span_of) (h.unmerged z (ap (map span_of) (was ∙ sym now) ∙ same ∙ starts_taller z height before end))))
     (λ at. none_starts z (before ++ map (taller height) end) (each_weaker (λ r. r.y <ℤ y) (λ r. r.y <ℤ z) (λ r l. omega (arith, ints)) (before ++ map (taller height) end) (above_taller y height before end h)))
 
@@ -315,10 +287,6 @@ any_taller y height (r ∷ rs) (s ∷ ss) p e h k =
     ap (λ b. b || any_holds (map (taller height) rs) p) (holds_taller y height r s p h.0 k.0 f g)
     ∙ ap (λ b. (holds r p || holds s p) || b) (any_taller y height rs ss p rest h.1 k.1)
     ∙ or_or (holds r p) (holds s p) (any_holds rs p) (any_holds ss p)
-
-or_assoc : (a b c : Bool) → (a || (b || c)) ≡ ((a || b) || c)
-or_assoc true b c = refl
-or_assoc false b c = refl
 
 pub points_taller : (y : ℤ) (height last : ℕ) (rects band : List Rect) (p : Point) → IsSweptTo y last rects → IsBand y height band → map span_of (drop last rects) ≡ map span_of band → any_holds (take last rects ++ map (taller height) (drop last rects)) p ≡ (any_holds rects p || any_holds band p)
 points_taller y height last rects band p h b e =

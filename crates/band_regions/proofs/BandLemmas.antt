@@ -1,5 +1,5 @@
 -- Bands seen from a row: their next end, what they have there, and what is left of them.
-use Rattle.std.proofs.Common.{◌≡◌, ℕ, ◌+◌, ◌<◌, Bool, true, false, ◌||◌, ◌&&◌, ◌⊎◌, List, [], ◌∷◌, ◌++◌, length, get_or, take, drop, refl, sym, ap, ◌∙◌, subst, inl, inr, arith, to_z, of_z, w32}
+use Rattle.std.proofs.Common.{◌≡◌, ℕ, ◌+◌, ◌<◌, true, false, ◌||◌, ◌&&◌, ◌⊎◌, List, [], ◌∷◌, ◌++◌, length, get_or, take, drop, refl, sym, ap, ◌∙◌, subst, inl, inr, arith, to_z, of_z, w32}
 use Rattle.std.specs.Prelude.{ℤ, ◌<ℤ◌, ◌≤ℤ◌}
 use Rattle.std.specs.List.{All, AllByRecursion as Each}
 use Rattle.std.proofs.lemmas.Int.{ints}
@@ -13,6 +13,7 @@ use Rattle.qws_base.specs.declared.points.Rect.{Rect}
 use Rattle.band_regions.specs.Ranges.{IsInRange}
 use Rattle.band_regions.specs.Rows.{IsSpan, IsRow, IsLeftOf, has_column}
 use Rattle.band_regions.specs.Bands.{IsBanded, IsRestOfBands, EndsBelow, ReachesDown, in_row}
+use Rattle.band_regions.proofs.Bools.{or_false, and_true, and_false}
 use Rattle.band_regions.proofs.ListLemmas.{Pairs, pairs_of, all_pairs_of, pairs_left, pairs_right, pairs_under, each_both, each_weaker, each_left, each_right, any_none, any_same}
 use Rattle.band_regions.proofs.Spanning.{not_before, not_after, spans_from}
 
@@ -63,6 +64,12 @@ tops (r ∷ rs) d top l h e = All-from_recursion (λ s. top ≤ℤ s.y) (r ∷ r
 all_end : (r : Rect) (rs : List Rect) → IsStacked (r ∷ rs) → Each (λ s. bottom r ≤ℤ bottom s) (r ∷ rs)
 all_end r rs h = each_both HasPixels (IsFrom r) (λ s. bottom r ≤ℤ bottom s) (end_from r) (r ∷ rs) h.pixels (from_first r rs h)
 
+pub row_no : (s : Rect) (p : Point) → spans s.y s.h p.y ≡ false → holds s p ≡ false
+row_no s p e = ap (λ b. spans s.x s.w p.x && b) e ∙ and_false (spans s.x s.w p.x)
+
+pub row_yes : (s : Rect) (p : Point) → spans s.y s.h p.y ≡ true → holds s p ≡ spans s.x s.w p.x
+row_yes s p e = ap (λ b. spans s.x s.w p.x && b) e ∙ and_true (spans s.x s.w p.x)
+
 -- ---- the next row at which a band begins or ends
 
 pub reach_above : (rects : List Rect) (d : Rect) (next : ℤ) → 0 < length rects → IsBanded rects → next ≡ (get_or rects 0 d).y → All (ReachesDown next) rects
@@ -70,15 +77,8 @@ reach_above rects d next l h e = λ k t m. let top = tops rects d next l h e k t
 
 pub none_above : (rects : List Rect) (d : Rect) (p : Point) → 0 < length rects → IsBanded rects → p.y <ℤ (get_or rects 0 d).y → any_holds rects p ≡ false
 none_above rects d p l h k =
-    any_none (λ r. holds r p) rects (each_weaker (λ s. (get_or rects 0 d).y ≤ℤ s.y) (λ s. holds s p ≡ false) (λ s m. row_false s p (not_before s.y p.y s.h (omega (arith, ints)))) rects
+    any_none (λ r. holds r p) rects (each_weaker (λ s. (get_or rects 0 d).y ≤ℤ s.y) (λ s. holds s p ≡ false) (λ s m. row_no s p (not_before s.y p.y s.h (omega (arith, ints)))) rects
     (recursion_from_All (λ s. (get_or rects 0 d).y ≤ℤ s.y) rects (tops rects d (get_or rects 0 d).y l h refl)))
-  where
-    and_false : (b : Bool) → (b && false) ≡ false
-    and_false true = refl
-    and_false false = refl
-
-    row_false : (s : Rect) (p : Point) → spans s.y s.h p.y ≡ false → holds s p ≡ false
-    row_false s p e = ap (λ b. spans s.x s.w p.x && b) e ∙ and_false (spans s.x s.w p.x)
 
 pub reach_below : (rects : List Rect) (d : Rect) (next : ℤ) → 0 < length rects → IsBanded rects → next ≡ bottom (get_or rects 0 d) → All (ReachesDown next) rects
 reach_below [] d next l h e = absurd (omega arith)
@@ -153,24 +153,6 @@ row_of_band rects top h e = record {
   each = All-from_recursion IsSpan rects (each_both IsInRange HasPixels IsSpan span_from rects h.range h.pixels);
   gapped = all_pairs_of IsLeftOf rects (pairs_under (λ s. HasPixels s × (s.y ≡ top)) Precedes IsLeftOf (gap_in_band top) rects (each_both HasPixels (λ s. s.y ≡ top) (λ s. HasPixels s × (s.y ≡ top)) (λ s p q. (p, q)) rects h.pixels e) h.sorted);
 }
-
-and_true : (b : Bool) → (b && true) ≡ b
-and_true true = refl
-and_true false = refl
-
-and_false : (b : Bool) → (b && false) ≡ false
-and_false true = refl
-and_false false = refl
-
-or_false : (b : Bool) → (b || false) ≡ b
-or_false true = refl
-or_false false = refl
-
-pub row_no : (s : Rect) (p : Point) → spans s.y s.h p.y ≡ false → holds s p ≡ false
-row_no s p e = ap (λ b. spans s.x s.w p.x && b) e ∙ and_false (spans s.x s.w p.x)
-
-pub row_yes : (s : Rect) (p : Point) → spans s.y s.h p.y ≡ true → holds s p ≡ spans s.x s.w p.x
-row_yes s p e = ap (λ b. spans s.x s.w p.x && b) e ∙ and_true (spans s.x s.w p.x)
 
 any_parts : (n : ℕ) (rects : List Rect) (p : Point) → any_holds rects p ≡ (any_holds (take n rects) p || any_holds (drop n rects) p)
 any_parts n rects p = ap (λ xs. any_holds xs p) (sym (take-append-drop n rects)) ∙ list_any-append (λ r. holds r p) (take n rects) (drop n rects)

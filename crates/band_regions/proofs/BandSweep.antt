@@ -16,7 +16,7 @@ use Rattle.band_regions.specs.Rows.{IsBand, IsLevel, has_column}
 use Rattle.band_regions.specs.Bands.{IsBanded, IsRestOfBands, IsSweptTo, EndsBelow, ReachesDown, in_row}
 use Rattle.band_regions.proofs.ListLemmas.{any_none, any_same, each_weaker, each_both, each_append}
 use Rattle.band_regions.proofs.Spanning.{not_before, not_after, spans_from}
-use Rattle.band_regions.proofs.RowSweep.{keeps_none}
+use Rattle.band_regions.proofs.RowSweep.{both_false}
 use Rattle.band_regions.proofs.BandLemmas.{row_no, row_yes}
 
 -- the rows above y are done: what is left of both lists, and the list so far
@@ -27,9 +27,6 @@ pub record IsSwept (operation : Operation) (first second : List Rect) (y : ℤ) 
   pub second_left : IsRestOfBands y second second_rest
   pub swept : IsSweptTo y last rects
   pub points : (p : Point) → p.y <ℤ y → any_holds rects p ≡ keeps operation (any_holds first p) (any_holds second p)
-
-both_false : (operation : Operation) (a b : Bool) → a ≡ false → b ≡ false → keeps operation a b ≡ false
-both_false operation a b e f = ap (λ t. keeps operation t b) e ∙ ap (λ t. keeps operation false t) f ∙ keeps_none operation
 
 none_high : (rects : List Rect) (p : Point) → IsBanded rects → p.y <ℤ negsuc 32767 → any_holds rects p ≡ false
 none_high rects p h l = any_none (λ r. holds r p) rects (each_weaker IsInRange (λ r. holds r p ≡ false) (λ r k. let low = k.low_y in row_no r p (not_before r.y p.y r.h (omega (arith, ints)))) rects (recursion_from_All IsInRange rects h.in_range))

@@ -1,3 +1,4 @@
+pub mod Bools
 pub mod ListLemmas
 pub mod Spanning
 pub mod SameSpans

@@ -1,5 +1,5 @@
 -- What holds of each element, of each two, and membership, by recursion on the list.
-use Rattle.std.proofs.Common.{◌≡◌, ℕ, ◌<◌, zero, suc, Bool, true, false, cond, ◌||◌, ◌⊎◌, List, [], ◌∷◌, ◌++◌, length, get_or, refl, sym, ap, ◌∙◌, subst, inl, inr, arith}
+use Rattle.std.proofs.Common.{◌≡◌, ℕ, ◌<◌, zero, suc, Bool, true, false, cond, ◌||◌, ◌⊎◌, List, [], ◌∷◌, ◌++◌, length, get_or, refl, sym, ap, ◌∙◌, subst, inl, inr, arith, map}
 use Rattle.std.specs.List.{AllPairs, AllByRecursion as Each, list_any, filter}
 use Rattle.std.proofs.lemmas.List.Elements.{All-from_recursion, recursion_from_All}
 
@@ -147,3 +147,31 @@ pub same_bools : (a b : Bool) → (a ≡ true → b ≡ true) → (b ≡ true �
 same_bools true b f g = sym (f refl)
 same_bools false true f g = g refl
 same_bools false false f g = refl
+
+-- ---- lists that are mapped
+
+pub each_map : {X Y : Type 0} (P : X → Type 0) (Q : Y → Type 0) (f : X → Y) → ((x : X) → P x → Q (f x)) → (xs : List X) → Each P xs → Each Q (map f xs)
+each_map P Q f g [] h = tt
+each_map P Q f g (x ∷ xs) h = (g x h.0, each_map P Q f g xs h.1)
+
+pub pairs_map : {X : Type 0} (P : X → Type 0) (R : X → X → Type 0) (f : X → X) → ((x y : X) → P x → P y → R x y → R (f x) (f y)) → (xs : List X) → Each P xs → Pairs R xs → Pairs R (map f xs)
+pairs_map P R f g [] h k = tt
+pairs_map P R f g (x ∷ xs) h k = (each_map (λ y. P y × R x y) (R (f x)) f (λ y m. g x y h.0 m.0 m.1) xs (each_both P (R x) (λ y. P y × R x y) (λ y p q. (p, q)) xs h.1 k.0), pairs_map P R f g xs h.1 k.1)
+
+cond_map : {X : Type 0} (f : X → X) (b : Bool) (x : X) (xs ys : List X) → xs ≡ map f ys → cond b (f x ∷ xs) xs ≡ map f (cond b (x ∷ ys) ys)
+cond_map f true x xs ys e = ap (λ zs. f x ∷ zs) e
+cond_map f false x xs ys e = e
+
+pub filter-map : {X : Type 0} (test was : X → Bool) (f : X → X) (xs : List X) → ((x : X) → test (f x) ≡ was x) → filter test (map f xs) ≡ map f (filter was xs)
+filter-map test was f [] same = refl
+filter-map test was f (x ∷ xs) same =
+    ap (λ b. cond b (f x ∷ filter test (map f xs)) (filter test (map f xs))) (same x)
+    ∙ cond_map f (was x) x (filter test (map f xs)) (filter was xs) (filter-map test was f xs same)
+
+pub any_map : {X : Type 0} (test was : X → Bool) (f : X → X) (xs : List X) → ((x : X) → test (f x) ≡ was x) → list_any test (map f xs) ≡ list_any was xs
+any_map test was f [] same = refl
+any_map test was f (x ∷ xs) same = ap (λ b. b || list_any test (map f xs)) (same x) ∙ ap (λ b. was x || b) (any_map test was f xs same)
+
+pub nil_of_map : {X Y : Type 0} (f : X → Y) (xs : List X) → map f xs ≡ [] → xs ≡ []
+nil_of_map f [] e = refl
+nil_of_map f (x ∷ xs) e = cc

@@ -1,7 +1,7 @@
 -- Single rectangles, moved lists, and the search for a point.
 use Rattle.std.proofs.Common.{◌≡◌, ℕ, ◌+◌, ◌<◌, ◌≤◌, Bool, true, false, cond, ◌||◌, ◌&&◌, ◌⊎◌, List, [], ◌∷◌, length, get_or, map, take, drop, refl, sym, ap, ◌∙◌, subst, inl, inr, arith}
 use Rattle.std.specs.Prelude.{ℤ, pos, ◌+ℤ◌, ◌-ℤ◌, ◌<ℤ◌, ◌≤ℤ◌, int_le}
-use Rattle.std.specs.List.{All, AllWithin, AllByRecursion as Each, filter, list_any}
+use Rattle.std.specs.List.{All, AllWithin, AllByRecursion as Each, filter}
 use Rattle.std.specs.List.Sorted.{IsPartitionPoint, IsPartitionedBy}
 use Rattle.std.specs.Ordering.{int_eq}
 use Rattle.std.proofs.lemmas.Int.{ints, by_lt_z}
@@ -14,7 +14,8 @@ use Rattle.qws_base.specs.Regions.{right, bottom, HasPixels, Precedes, span_of, 
 use Rattle.qws_base.specs.declared.points.Point.{Point}
 use Rattle.qws_base.specs.declared.points.Rect.{Rect}
 use Rattle.band_regions.specs.Ranges.{IsInRange, IsKept, is_before}
-use Rattle.band_regions.proofs.ListLemmas.{Pairs, pairs_of, all_pairs_of, pairs_right, any_none, each_weaker, each_both, same_bools}
+use Rattle.band_regions.proofs.ListLemmas.{Pairs, pairs_of, all_pairs_of, pairs_right, any_none, each_weaker, each_both, same_bools, each_map, pairs_map, filter-map, any_map, nil_of_map}
+use Rattle.band_regions.proofs.Bools.{or_false, and_false}
 use Rattle.band_regions.proofs.Spanning.{low_of, high_of, spans_from}
 
 -- ---- one rectangle, or none
@@ -31,24 +32,16 @@ no_span low at n e = grind (arith, ints)
 pub holds_none : (r : Rect) (p : Point) → (r.w ≡ 0) ⊎ (r.h ≡ 0) → holds r p ≡ false
 holds_none r p (inl e) = ap (λ b. b && spans r.y r.h p.y) (no_span r.x p.x r.w e)
 holds_none r p (inr e) = ap (λ b. spans r.x r.w p.x && b) (no_span r.y p.y r.h e) ∙ and_false (spans r.x r.w p.x)
-  where
-    and_false : (b : Bool) → (b && false) ≡ false
-    and_false true = refl
-    and_false false = refl
 
 apart_ends : (r : Rect) (y : ℤ) → HasPixels r → starts_at y r ≡ true → ends_at y r ≡ false
 apart_ends r y p e = let h = p.1 in grind (arith, ints)
-
-nil_of_map : (xs : List Rect) → map span_of xs ≡ [] → xs ≡ []
-nil_of_map [] e = refl
-nil_of_map (x ∷ xs) e = cc
 
 unmerged_one : (r : Rect) (y : ℤ) → HasPixels r → map span_of (filter (ends_at y) (r ∷ [])) ≡ map span_of (filter (starts_at y) (r ∷ [])) → filter (starts_at y) (r ∷ []) ≡ []
 unmerged_one r y p = by_test (starts_at y r) refl
   where
     by_test : (b : Bool) → starts_at y r ≡ b → map span_of (filter (ends_at y) (r ∷ [])) ≡ map span_of (filter (starts_at y) (r ∷ [])) → filter (starts_at y) (r ∷ []) ≡ []
     by_test false e same = ap (λ b. cond b (r ∷ []) []) e
-    by_test true e same = nil_of_map (filter (starts_at y) (r ∷ [])) (sym same ∙ ap (λ b. map span_of (cond b (r ∷ []) [])) (apart_ends r y p e))
+    by_test true e same = nil_of_map span_of (filter (starts_at y) (r ∷ [])) (sym same ∙ ap (λ b. map span_of (cond b (r ∷ []) [])) (apart_ends r y p e))
 
 pub kept_one : (r : Rect) → HasPixels r → IsInRange r → IsKept (r ∷ [])
 kept_one r p h = record {
@@ -60,10 +53,6 @@ kept_one r p h = record {
   in_range = All-from_recursion IsInRange (r ∷ []) (h, tt);
 }
 
-or_false : (b : Bool) → (b || false) ≡ b
-or_false true = refl
-or_false false = refl
-
 pub region_none : (r : Rect) → (r.w ≡ 0) ⊎ (r.h ≡ 0) → IsRegionOf [] (holds r)
 region_none r e = record { canonical = kept_none.canonical; points = λ p. sym (holds_none r p e) }
 
@@ -71,24 +60,6 @@ pub region_one : (r : Rect) → HasPixels r → IsInRange r → IsRegionOf (r �
 region_one r p h = record { canonical = (kept_one r p h).canonical; points = λ q. or_false (holds r q) }
 
 -- ---- a list that is moved
-
-each_map : (P Q : Rect → Type 0) (f : Rect → Rect) → ((r : Rect) → P r → Q (f r)) → (xs : List Rect) → Each P xs → Each Q (map f xs)
-each_map P Q f g [] h = tt
-each_map P Q f g (x ∷ xs) h = (g x h.0, each_map P Q f g xs h.1)
-
-pairs_map : (R : Rect → Rect → Type 0) (f : Rect → Rect) → ((r s : Rect) → R r s → R (f r) (f s)) → (xs : List Rect) → Pairs R xs → Pairs R (map f xs)
-pairs_map R f g [] h = tt
-pairs_map R f g (x ∷ xs) h = (each_map (R x) (R (f x)) f (g x) xs h.0, pairs_map R f g xs h.1)
-
-cond_map : (f : Rect → Rect) (b : Bool) (x : Rect) (xs ys : List Rect) → xs ≡ map f ys → cond b (f x ∷ xs) xs ≡ map f (cond b (x ∷ ys) ys)
-cond_map f true x xs ys e = ap (λ zs. f x ∷ zs) e
-cond_map f false x xs ys e = e
-
-filter-map : (test was : Rect → Bool) (f : Rect → Rect) (xs : List Rect) → ((r : Rect) → test (f r) ≡ was r) → filter test (map f xs) ≡ map f (filter was xs)
-filter-map test was f [] same = refl
-filter-map test was f (x ∷ xs) same =
-    ap (λ b. cond b (f x ∷ filter test (map f xs)) (filter test (map f xs))) (same x)
-    ∙ cond_map f (was x) x (filter test (map f xs)) (filter was xs) (filter-map test was f xs same)
 
 moved_precedes : (d : Point) (r s : Rect) → Precedes r s → Precedes (shifted d r) (shifted d s)
 moved_precedes d r s (inl same) = let e = same.0 in let g = same.2 in inl (ap (λ y. d.y +ℤ y) e, same.1, omega (arith, ints))
@@ -114,7 +85,7 @@ pub kept_moved : (d : Point) (xs : List Rect) → IsKept xs → All (λ r. IsInR
 kept_moved d xs h k = record {
   canonical = record {
     some_pixels = All-from_recursion HasPixels (map (shifted d) xs) (each_map HasPixels HasPixels (shifted d) (λ r p. p) xs (recursion_from_All HasPixels xs h.canonical.some_pixels));
-    sorted = all_pairs_of Precedes (map (shifted d) xs) (pairs_map Precedes (shifted d) (moved_precedes d) xs (pairs_of Precedes xs h.canonical.sorted));
+    sorted = all_pairs_of Precedes (map (shifted d) xs) (pairs_map HasPixels Precedes (shifted d) (λ r s p q. moved_precedes d r s) xs (recursion_from_All HasPixels xs h.canonical.some_pixels) (pairs_of Precedes xs h.canonical.sorted));
     unmerged = λ y same.
         let ends : filter (ends_at y) (map (shifted d) xs) ≡ map (shifted d) (filter (ends_at (y -ℤ d.y)) xs) = filter-map (ends_at y) (ends_at (y -ℤ d.y)) (shifted d) xs (moved_ends d y) in
         let starts : filter (starts_at y) (map (shifted d) xs) ≡ map (shifted d) (filter (starts_at (y -ℤ d.y)) xs) = filter-map (starts_at y) (starts_at (y -ℤ d.y)) (shifted d) xs (moved_starts d y) in
@@ -127,10 +98,6 @@ kept_moved d xs h k = record {
 
 moved_span : (a low at : ℤ) (n : ℕ) → spans (a +ℤ low) n at ≡ spans low n (at -ℤ a)
 moved_span a low at n = grind (arith, ints)
-
-any_map : (test was : Rect → Bool) (f : Rect → Rect) (xs : List Rect) → ((r : Rect) → test (f r) ≡ was r) → list_any test (map f xs) ≡ list_any was xs
-any_map test was f [] same = refl
-any_map test was f (x ∷ xs) same = ap (λ b. b || list_any test (map f xs)) (same x) ∙ ap (λ b. was x || b) (any_map test was f xs same)
 
 pub points_moved : (d : Point) (xs : List Rect) (p : Point) → any_holds (map (shifted d) xs) p ≡ any_holds xs (minus p d)
 points_moved d xs p = any_map (λ r. holds r p) (λ r. holds r (minus p d)) (shifted d) xs

@@ -1,5 +1,5 @@
 -- A row that grows at its end.
-use Rattle.std.proofs.Common.{◌≡◌, ℕ, ◌+◌, ◌-◌, ◌<◌, suc, Bool, true, false, ◌||◌, List, [], ◌∷◌, ◌++◌, length, get_or, set, take, refl, sym, ap, ◌∙◌, subst, arith}
+use Rattle.std.proofs.Common.{◌≡◌, ℕ, ◌+◌, ◌-◌, ◌<◌, suc, ◌||◌, List, [], ◌∷◌, ◌++◌, length, get_or, set, take, refl, sym, ap, ◌∙◌, subst, arith}
 use Rattle.std.specs.Prelude.{ℤ, pos, negsuc, ◌+ℤ◌, ◌<ℤ◌, ◌≤ℤ◌, int_le, int_lt, ◌&&◌}
 use Rattle.std.specs.List.{All, AllByRecursion as Each}
 use Rattle.std.proofs.lemmas.Int.{ints}
@@ -10,6 +10,7 @@ use Rattle.qws_base.specs.Points.{spans}
 use Rattle.qws_base.specs.Regions.{right}
 use Rattle.qws_base.specs.declared.points.Rect.{Rect}
 use Rattle.band_regions.specs.Rows.{IsSpan, IsRow, IsBandUpTo, IsLevel, IsLeftOf, ReachesAtMost, EndsLeftOf, LastEndsAt, has_column, is_between}
+use Rattle.band_regions.proofs.Bools.{or_false, or_assoc}
 use Rattle.band_regions.proofs.ListLemmas.{Pairs, pairs_of, all_pairs_of, pairs_append, pairs_left, pairs_across, each_append, each_left, each_right, each_weaker}
 
 abbrev pub wider : ℕ → Rect → Rect
@@ -64,14 +65,6 @@ push_grown from to top height w xs h apart some is low high =
 pub pushed_band : (from to top : ℤ) (height w : ℕ) (xs : List Rect) → IsBandUpTo from top height xs → All (EndsLeftOf from) xs → from <ℤ to → (from +ℤ pos w) ≡ to → negsuc 32767 ≤ℤ from → to ≤ℤ pos 32768 → IsBandUpTo to top height (xs ++ record { x = from; y = top; w = w; h = height } ∷ [])
 pushed_band from to top height w xs h apart some is low high =
     band_of to top height (xs ++ record { x = from; y = top; w = w; h = height } ∷ []) (push_grown from to top height w xs (grown from top height xs h) (recursion_from_All (EndsLeftOf from) xs apart) some is low high)
-
-or_false : (b : Bool) → (b || false) ≡ b
-or_false true = refl
-or_false false = refl
-
-or_assoc : (a b c : Bool) → (a || (b || c)) ≡ ((a || b) || c)
-or_assoc true b c = refl
-or_assoc false b c = refl
 
 pub pushed_columns : (from to top : ℤ) (height w : ℕ) (xs : List Rect) (c : ℤ) → (from +ℤ pos w) ≡ to → has_column (xs ++ record { x = from; y = top; w = w; h = height } ∷ []) c ≡ (has_column xs c || is_between from to c)
 pushed_columns from to top height w xs c is =

@@ -42,7 +42,7 @@ whole_row row h = record {
   same = λ c l. refl;
 }
 
-both_false : (operation : Operation) (a b : Bool) → a ≡ false → b ≡ false → keeps operation a b ≡ false
+pub both_false : (operation : Operation) (a b : Bool) → a ≡ false → b ≡ false → keeps operation a b ≡ false
 both_false operation a b e f = ap (λ t. keeps operation t b) e ∙ ap (λ t. keeps operation false t) f ∙ keeps_none operation
 
 pub combined_none : (operation : Operation) (first second : List Rect) (top : ℤ) (height : ℕ) → IsRow first → IsRow second → IsCombinedTo operation first second top height (negsuc 32767) first second []

@@ -1,6 +1,7 @@
 -- Which places a span has.
-use Rattle.std.proofs.Common.{◌≡◌, ℕ, true, false, arith}
+use Rattle.std.proofs.Common.{◌≡◌, ℕ, true, false, arith, ◌⊎◌, inl, inr}
 use Rattle.std.specs.Prelude.{ℤ, pos, ◌+ℤ◌, ◌<ℤ◌, ◌≤ℤ◌}
+use Rattle.std.specs.Ordering.{int_eq}
 use Rattle.std.proofs.lemmas.Int.{ints}
 use Rattle.qws_base.specs.Points.{spans}
 
@@ -18,3 +19,15 @@ not_before low at n h = grind (arith, ints)
 
 pub not_after : (low at : ℤ) (n : ℕ) → (low +ℤ pos n) ≤ℤ at → spans low n at ≡ false
 not_after low at n h = grind (arith, ints)
+
+-- ---- equal places, as a test
+
+pub is_equal : (a b : ℤ) → a ≡ b → int_eq a b ≡ true
+is_equal a b e = grind (arith, ints)
+
+pub equal_is : (a b : ℤ) → int_eq a b ≡ true → a ≡ b
+equal_is a b e = grind (arith, ints)
+
+pub different : (a b : ℤ) → (a <ℤ b) ⊎ (b <ℤ a) → int_eq a b ≡ false
+different a b (inl l) = grind (arith, ints)
+different a b (inr l) = grind (arith, ints)

@@ -2,7 +2,6 @@
 use Rattle.std.proofs.Common.{◌≡◌, ℕ, ◌<◌, Bool, true, false, ◌⊎◌, List, [], ◌∷◌, map, refl, sym, ap, ◌∙◌, subst, inl, inr, arith}
 use Rattle.std.specs.Prelude.{ℤ, pos, ◌+ℤ◌, ◌-ℤ◌, ◌<ℤ◌, ◌≤ℤ◌}
 use Rattle.std.specs.List.{AllByRecursion as Each, filter}
-use Rattle.std.specs.Ordering.{int_eq}
 use Rattle.std.proofs.lemmas.Int.{ints, by_lt_z}
 use Rattle.std.proofs.lemmas.Bool.{false≢true, and_parts, and_from}
 use Rattle.std.proofs.lemmas.List.Elements.{recursion_from_All}
@@ -11,8 +10,8 @@ use Rattle.qws_base.specs.Regions.{right, bottom, span_of, starts_at, ends_at, H
 use Rattle.qws_base.specs.declared.points.Point.{Point}
 use Rattle.qws_base.specs.declared.points.Rect.{Rect}
 use Rattle.band_regions.specs.Rows.{has_column, IsLeftOf}
-use Rattle.band_regions.proofs.ListLemmas.{In, Pairs, pairs_of, pairs_in, pairs_filter, pairs_under, each_in, each_filter, each_passes, each_weaker, each_both, any_in, any_from_in, filter_in, in_filter, passes_in, same_bools}
-use Rattle.band_regions.proofs.Spanning.{low_of, high_of, spans_from}
+use Rattle.band_regions.proofs.ListLemmas.{In, Pairs, pairs_of, pairs_in, pairs_filter, pairs_under, each_in, each_filter, each_passes, each_weaker, each_both, any_in, any_from_in, filter_in, in_filter, passes_in, same_bools, nil_of_map}
+use Rattle.band_regions.proofs.Spanning.{low_of, high_of, spans_from, is_equal, equal_is}
 use Rattle.band_regions.proofs.SameSpans.{IsWide, same_spans}
 
 abbrev at : ℤ → ℤ → Point
@@ -173,19 +172,13 @@ record IsCut (rects : List Rect) (y : ℤ) : Type 0 where
   pub above : (s : Rect) → In s rects → spans s.y s.h (y -ℤ pos 1) ≡ true → bottom s ≡ y
   pub below : (s : Rect) → In s rects → spans s.y s.h y ≡ true → s.y ≡ y
 
-eq_test : (a b : ℤ) → a ≡ b → int_eq a b ≡ true
-eq_test a b e = grind (arith, ints)
-
-test_eq : (a b : ℤ) → int_eq a b ≡ true → a ≡ b
-test_eq a b e = grind (arith, ints)
-
 ending_gap : (y : ℤ) (r s : Rect) → (HasPixels r × (ends_at y r ≡ true)) → (HasPixels s × (ends_at y s ≡ true)) → Precedes r s → IsLeftOf r s
 ending_gap y r s h k (inl same) = same.2
-ending_gap y r s h k (inr above) = let a = test_eq (bottom r) y h.1 in let b = test_eq (bottom s) y k.1 in absurd (omega (arith, ints, k.0.1))
+ending_gap y r s h k (inr above) = let a = equal_is (bottom r) y h.1 in let b = equal_is (bottom s) y k.1 in absurd (omega (arith, ints, k.0.1))
 
 starting_gap : (y : ℤ) (r s : Rect) → (HasPixels r × (starts_at y r ≡ true)) → (HasPixels s × (starts_at y s ≡ true)) → Precedes r s → IsLeftOf r s
 starting_gap y r s h k (inl same) = same.2
-starting_gap y r s h k (inr above) = let a = test_eq r.y y h.1 in let b = test_eq s.y y k.1 in absurd (omega (arith, ints, h.0.1))
+starting_gap y r s h k (inr above) = let a = equal_is r.y y h.1 in let b = equal_is s.y y k.1 in absurd (omega (arith, ints, h.0.1))
 
 row_above : (rects : List Rect) (y c : ℤ) → IsGood rects → IsCut rects y → has_column (filter (ends_at y) rects) c ≡ any_holds rects (at c (y -ℤ pos 1))
 row_above rects y c g cut =
@@ -193,11 +186,11 @@ row_above rects y c g cut =
     (λ e. let found = any_in (λ r. spans r.x r.w c) (filter (ends_at y) rects) e in
     let s = found.0 in
     let member = in_filter (ends_at y) rects s found.1 in
-    let its : bottom s ≡ y = test_eq (bottom s) y (passes_in (ends_at y) rects s found.1) in
+    let its : bottom s ≡ y = equal_is (bottom s) y (passes_in (ends_at y) rects s found.1) in
     held rects c (y -ℤ pos 1) s (record { member = member; column = found.2; row = subst (λ z. spans s.y s.h (z -ℤ pos 1) ≡ true) its (last_row s (each_in HasPixels rects s g.pixels member)) }))
     (λ e. let found = holder rects c (y -ℤ pos 1) e in
     let s = found.0 in
-    any_from_in (λ r. spans r.x r.w c) (filter (ends_at y) rects) s (filter_in (ends_at y) rects s found.1.member (eq_test (bottom s) y (cut.above s found.1.member found.1.row))) found.1.column)
+    any_from_in (λ r. spans r.x r.w c) (filter (ends_at y) rects) s (filter_in (ends_at y) rects s found.1.member (is_equal (bottom s) y (cut.above s found.1.member found.1.row))) found.1.column)
 
 row_below : (rects : List Rect) (y c : ℤ) → IsGood rects → IsCut rects y → has_column (filter (starts_at y) rects) c ≡ any_holds rects (at c y)
 row_below rects y c g cut =
@@ -205,11 +198,11 @@ row_below rects y c g cut =
     (λ e. let found = any_in (λ r. spans r.x r.w c) (filter (starts_at y) rects) e in
     let s = found.0 in
     let member = in_filter (starts_at y) rects s found.1 in
-    let its : s.y ≡ y = test_eq s.y y (passes_in (starts_at y) rects s found.1) in
+    let its : s.y ≡ y = equal_is s.y y (passes_in (starts_at y) rects s found.1) in
     held rects c y s (record { member = member; column = found.2; row = subst (λ z. spans s.y s.h z ≡ true) its (first_row s (each_in HasPixels rects s g.pixels member)) }))
     (λ e. let found = holder rects c y e in
     let s = found.0 in
-    any_from_in (λ r. spans r.x r.w c) (filter (starts_at y) rects) s (filter_in (starts_at y) rects s found.1.member (eq_test s.y y (cut.below s found.1.member found.1.row))) found.1.column)
+    any_from_in (λ r. spans r.x r.w c) (filter (starts_at y) rects) s (filter_in (starts_at y) rects s found.1.member (is_equal s.y y (cut.below s found.1.member found.1.row))) found.1.column)
 
 wide : (test : Rect → Bool) (rects : List Rect) → IsGood rects → Each IsWide (filter test rects)
 wide test rects g = each_weaker HasPixels IsWide (λ r p. p.0) (filter test rects) (each_filter HasPixels test rects g.pixels)
@@ -267,10 +260,6 @@ cut_below rects r g m = record {
 empty_has_none : (xs : List Rect) (r : Rect) → xs ≡ [] → In r xs → ⊥
 empty_has_none xs r e m = subst (In r) e m
 
-nil_of_map : (xs : List Rect) → map span_of xs ≡ [] → xs ≡ []
-nil_of_map [] e = refl
-nil_of_map (x ∷ xs) e = cc
-
 piece : (rects : List Rect) (r : Rect) → IsGood rects → In r rects → IsPiece (any_holds rects) r
 piece rects r g m = record {
   pixels = pixels;
@@ -278,10 +267,10 @@ piece rects r g m = record {
   left_out = λ y h. not_held rects (r.x -ℤ pos 1) y (λ s k. left_gap rects r s y g m h k);
   right_out = λ y h. not_held rects (right r) y (λ s k. right_gap rects r s y g m h k);
   alike = λ x y z h k. same_bools (any_holds rects (at x y)) (any_holds rects (at x z)) (alike_one rects r x y z g m h k) (alike_one rects r x z y g m k h);
-  above_differs = λ same. empty_has_none (filter (starts_at r.y) rects) r (g.unmerged r.y (same_at_cut rects r.y g (cut_above rects r g m) same)) (filter_in (starts_at r.y) rects r m (eq_test r.y r.y refl));
+  above_differs = λ same. empty_has_none (filter (starts_at r.y) rects) r (g.unmerged r.y (same_at_cut rects r.y g (cut_above rects r g m) same)) (filter_in (starts_at r.y) rects r m (is_equal r.y r.y refl));
   below_differs = λ same.
       let spans_same = same_at_cut rects (bottom r) g (cut_below rects r g m) same in
-      empty_has_none (filter (ends_at (bottom r)) rects) r (nil_of_map (filter (ends_at (bottom r)) rects) (spans_same ∙ ap (map span_of) (g.unmerged (bottom r) spans_same))) (filter_in (ends_at (bottom r)) rects r m (eq_test (bottom r) (bottom r) refl));
+      empty_has_none (filter (ends_at (bottom r)) rects) r (nil_of_map span_of (filter (ends_at (bottom r)) rects) (spans_same ∙ ap (map span_of) (g.unmerged (bottom r) spans_same))) (filter_in (ends_at (bottom r)) rects r m (is_equal (bottom r) (bottom r) refl));
 }
   where
     pixels : HasPixels r
