@@ -1,0 +1,12 @@
+pub mod Bools
+pub mod ListLemmas
+pub mod Spanning
+pub mod SameSpans
+pub mod Uniqueness
+pub mod RowLemmas
+pub mod RowEnds
+pub mod RowSweep
+pub mod BandLemmas
+pub mod BandEnds
+pub mod BandSweep
+pub mod RegionLemmas

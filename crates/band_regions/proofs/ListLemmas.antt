@@ -1,0 +1,177 @@
+-- What holds of each element, of each two, and membership, by recursion on the list.
+use Rattle.std.proofs.Common.{◌≡◌, ℕ, ◌<◌, zero, suc, Bool, true, false, cond, ◌||◌, ◌⊎◌, List, [], ◌∷◌, ◌++◌, length, get_or, refl, sym, ap, ◌∙◌, subst, inl, inr, arith, map}
+use Rattle.std.specs.List.{AllPairs, AllByRecursion as Each, list_any, filter}
+use Rattle.std.proofs.lemmas.List.Elements.{All-from_recursion, recursion_from_All}
+
+abbrev pub Pairs : {X : Type 0} → (X → X → Type 0) → List X → Type 0
+Pairs R [] = Unit {0}
+Pairs R (x ∷ xs) = Each (R x) xs × Pairs R xs
+
+abbrev pub In : {X : Type 0} → X → List X → Type 0
+In x [] = ⊥
+In x (y ∷ ys) = (x ≡ y) ⊎ In x ys
+
+pub pairs_of : {X : Type 0} (R : X → X → Type 0) (xs : List X) → AllPairs R xs → Pairs R xs
+pairs_of R [] h = tt
+pairs_of R (x ∷ xs) h = (recursion_from_All (R x) xs (λ k d l. h zero (suc k) d (omega arith) (omega arith)), pairs_of R xs (λ i j d l m. h (suc i) (suc j) d (omega arith) (omega arith)))
+
+pub pairs_at : {X : Type 0} (R : X → X → Type 0) (xs : List X) → Pairs R xs → (i j : ℕ) (d : X) → i < j → j < length xs → R (get_or xs i d) (get_or xs j d)
+pairs_at R [] h i j d l m = absurd (omega arith)
+pairs_at R (x ∷ xs) h zero zero d l m = absurd (omega arith)
+pairs_at R (x ∷ xs) h zero (suc j) d l m = All-from_recursion (R x) xs h.0 j d (omega arith)
+pairs_at R (x ∷ xs) h (suc i) zero d l m = absurd (omega arith)
+pairs_at R (x ∷ xs) h (suc i) (suc j) d l m = pairs_at R xs h.1 i j d (omega arith) (omega arith)
+
+pub all_pairs_of : {X : Type 0} (R : X → X → Type 0) (xs : List X) → Pairs R xs → AllPairs R xs
+all_pairs_of R xs h i j d l m = pairs_at R xs h i j d l m
+
+pub each_in : {X : Type 0} (P : X → Type 0) (xs : List X) (x : X) → Each P xs → In x xs → P x
+each_in P [] x h m = absurd m
+each_in P (y ∷ ys) x h (inl e) = subst P (sym e) h.0
+each_in P (y ∷ ys) x h (inr m) = each_in P ys x h.1 m
+
+pub each_from_in : {X : Type 0} (P : X → Type 0) (xs : List X) → ((x : X) → In x xs → P x) → Each P xs
+each_from_in P [] h = tt
+each_from_in P (x ∷ xs) h = (h x (inl refl), each_from_in P xs (λ y m. h y (inr m)))
+
+pub each_append : {X : Type 0} (P : X → Type 0) (xs ys : List X) → Each P xs → Each P ys → Each P (xs ++ ys)
+each_append P [] ys h k = k
+each_append P (x ∷ xs) ys h k = (h.0, each_append P xs ys h.1 k)
+
+pub each_left : {X : Type 0} (P : X → Type 0) (xs ys : List X) → Each P (xs ++ ys) → Each P xs
+each_left P [] ys h = tt
+each_left P (x ∷ xs) ys h = (h.0, each_left P xs ys h.1)
+
+pub each_right : {X : Type 0} (P : X → Type 0) (xs ys : List X) → Each P (xs ++ ys) → Each P ys
+each_right P [] ys h = h
+each_right P (x ∷ xs) ys h = each_right P xs ys h.1
+
+pub each_weaker : {X : Type 0} (P Q : X → Type 0) → ((x : X) → P x → Q x) → (xs : List X) → Each P xs → Each Q xs
+each_weaker P Q f [] h = tt
+each_weaker P Q f (x ∷ xs) h = (f x h.0, each_weaker P Q f xs h.1)
+
+pub each_both : {X : Type 0} (P Q S : X → Type 0) → ((x : X) → P x → Q x → S x) → (xs : List X) → Each P xs → Each Q xs → Each S xs
+each_both P Q S f [] h k = tt
+each_both P Q S f (x ∷ xs) h k = (f x h.0 k.0, each_both P Q S f xs h.1 k.1)
+
+pub pairs_append : {X : Type 0} (R : X → X → Type 0) (xs ys : List X) → Pairs R xs → Pairs R ys → Each (λ x. Each (R x) ys) xs → Pairs R (xs ++ ys)
+pairs_append R [] ys h k c = k
+pairs_append R (x ∷ xs) ys h k c = (each_append (R x) xs ys h.0 c.0, pairs_append R xs ys h.1 k c.1)
+
+pub pairs_left : {X : Type 0} (R : X → X → Type 0) (xs ys : List X) → Pairs R (xs ++ ys) → Pairs R xs
+pairs_left R [] ys h = tt
+pairs_left R (x ∷ xs) ys h = (each_left (R x) xs ys h.0, pairs_left R xs ys h.1)
+
+pub pairs_right : {X : Type 0} (R : X → X → Type 0) (xs ys : List X) → Pairs R (xs ++ ys) → Pairs R ys
+pairs_right R [] ys h = h
+pairs_right R (x ∷ xs) ys h = pairs_right R xs ys h.1
+
+pub pairs_across : {X : Type 0} (R : X → X → Type 0) (xs ys : List X) → Pairs R (xs ++ ys) → Each (λ x. Each (R x) ys) xs
+pairs_across R [] ys h = tt
+pairs_across R (x ∷ xs) ys h = (each_right (R x) xs ys h.0, pairs_across R xs ys h.1)
+
+-- where any two that R orders and that P holds of are ordered by S
+pub pairs_under : {X : Type 0} (P : X → Type 0) (R S : X → X → Type 0) → ((x y : X) → P x → P y → R x y → S x y) → (xs : List X) → Each P xs → Pairs R xs → Pairs S xs
+pairs_under P R S f [] h k = tt
+pairs_under P R S f (x ∷ xs) h k = (each_both P (R x) (S x) (λ y p r. f x y h.0 p r) xs h.1 k.0, pairs_under P R S f xs h.1 k.1)
+
+-- any two members are one, or ordered
+pub pairs_in : {X : Type 0} (R : X → X → Type 0) (xs : List X) (x y : X) → Pairs R xs → In x xs → In y xs → (x ≡ y) ⊎ (R x y ⊎ R y x)
+pairs_in R [] x y h m n = absurd m
+pairs_in R (z ∷ zs) x y h (inl e) (inl f) = inl (e ∙ sym f)
+pairs_in R (z ∷ zs) x y h (inl e) (inr n) = inr (inl (subst (λ w. R w y) (sym e) (each_in (R z) zs y h.0 n)))
+pairs_in R (z ∷ zs) x y h (inr m) (inl f) = inr (inr (subst (λ w. R w x) (sym f) (each_in (R z) zs x h.0 m)))
+pairs_in R (z ∷ zs) x y h (inr m) (inr n) = pairs_in R zs x y h.1 m n
+
+-- ---- what a test keeps
+
+cond_case : {X : Type 0} (P : List X → Type 0) (b : Bool) (xs ys : List X) → (b ≡ true → P xs) → (b ≡ false → P ys) → P (cond b xs ys)
+cond_case P true xs ys h k = h refl
+cond_case P false xs ys h k = k refl
+
+pub each_filter : {X : Type 0} (P : X → Type 0) (test : X → Bool) (xs : List X) → Each P xs → Each P (filter test xs)
+each_filter P test [] h = tt
+each_filter P test (x ∷ xs) h = cond_case (Each P) (test x) (x ∷ filter test xs) (filter test xs) (λ e. (h.0, each_filter P test xs h.1)) (λ e. each_filter P test xs h.1)
+
+pub each_passes : {X : Type 0} (test : X → Bool) (xs : List X) → Each (λ x. test x ≡ true) (filter test xs)
+each_passes test [] = tt
+each_passes test (x ∷ xs) = cond_case (Each (λ y. test y ≡ true)) (test x) (x ∷ filter test xs) (filter test xs) (λ e. (e, each_passes test xs)) (λ e. each_passes test xs)
+
+pub pairs_filter : {X : Type 0} (R : X → X → Type 0) (test : X → Bool) (xs : List X) → Pairs R xs → Pairs R (filter test xs)
+pairs_filter R test [] h = tt
+pairs_filter R test (x ∷ xs) h = cond_case (Pairs R) (test x) (x ∷ filter test xs) (filter test xs) (λ e. (each_filter (R x) test xs h.0, pairs_filter R test xs h.1)) (λ e. pairs_filter R test xs h.1)
+
+pub filter_in : {X : Type 0} (test : X → Bool) (xs : List X) (x : X) → In x xs → test x ≡ true → In x (filter test xs)
+filter_in test [] x m t = absurd m
+filter_in test (y ∷ ys) x (inl e) t = cond_case (In x) (test y) (y ∷ filter test ys) (filter test ys) (λ _. inl e) (λ f. absurd (cc (ap test e)))
+filter_in test (y ∷ ys) x (inr m) t = cond_case (In x) (test y) (y ∷ filter test ys) (filter test ys) (λ _. inr (filter_in test ys x m t)) (λ _. filter_in test ys x m t)
+
+pub in_filter : {X : Type 0} (test : X → Bool) (xs : List X) (x : X) → In x (filter test xs) → In x xs
+in_filter test xs x m = each_in (λ y. In y xs) (filter test xs) x (each_filter (λ y. In y xs) test xs (each_from_in (λ y. In y xs) xs (λ y n. n))) m
+
+pub passes_in : {X : Type 0} (test : X → Bool) (xs : List X) (x : X) → In x (filter test xs) → test x ≡ true
+passes_in test xs x m = each_in (λ y. test y ≡ true) (filter test xs) x (each_passes test xs) m
+
+pub filter_none : {X : Type 0} (test : X → Bool) (xs : List X) → Each (λ x. test x ≡ false) xs → filter test xs ≡ []
+filter_none test [] h = refl
+filter_none test (x ∷ xs) h = ap (λ b. cond b (x ∷ filter test xs) (filter test xs)) h.0 ∙ filter_none test xs h.1
+
+pub filter_all : {X : Type 0} (test : X → Bool) (xs : List X) → Each (λ x. test x ≡ true) xs → filter test xs ≡ xs
+filter_all test [] h = refl
+filter_all test (x ∷ xs) h = ap (λ b. cond b (x ∷ filter test xs) (filter test xs)) h.0 ∙ ap (λ ys. x ∷ ys) (filter_all test xs h.1)
+
+-- ---- some member passes
+
+pub any_in : {X : Type 0} (test : X → Bool) (xs : List X) → list_any test xs ≡ true → (x : X) × In x xs × (test x ≡ true)
+any_in test [] h = absurd (cc)
+any_in test (x ∷ xs) h = elim (test x) as (λ b. test x ≡ b → (b || list_any test xs) ≡ true → (y : _) × In y (x ∷ xs) × (test y ≡ true)) [ true ↦ λ e g. (x, inl refl, e) | false ↦ λ e g. let m = any_in test xs g in (m.0, inr m.1, m.2) ] refl h
+
+pub any_from_in : {X : Type 0} (test : X → Bool) (xs : List X) (x : X) → In x xs → test x ≡ true → list_any test xs ≡ true
+any_from_in test [] x m t = absurd m
+any_from_in test (y ∷ ys) x (inl e) t = ap (λ b. b || list_any test ys) (ap test (sym e) ∙ t)
+any_from_in test (y ∷ ys) x (inr m) t = ap (λ b. test y || b) (any_from_in test ys x m t) ∙ or_true (test y)
+  where
+    or_true : (b : Bool) → (b || true) ≡ true
+    or_true true = refl
+    or_true false = refl
+
+pub any_none : {X : Type 0} (test : X → Bool) (xs : List X) → Each (λ x. test x ≡ false) xs → list_any test xs ≡ false
+any_none test [] h = refl
+any_none test (x ∷ xs) h = ap (λ b. b || list_any test xs) h.0 ∙ any_none test xs h.1
+
+pub any_same : {X : Type 0} (test other : X → Bool) (xs : List X) → Each (λ x. test x ≡ other x) xs → list_any test xs ≡ list_any other xs
+any_same test other [] h = refl
+any_same test other (x ∷ xs) h = ap (λ b. b || list_any test xs) h.0 ∙ ap (λ b. other x || b) (any_same test other xs h.1)
+
+pub same_bools : (a b : Bool) → (a ≡ true → b ≡ true) → (b ≡ true → a ≡ true) → a ≡ b
+same_bools true b f g = sym (f refl)
+same_bools false true f g = g refl
+same_bools false false f g = refl
+
+-- ---- lists that are mapped
+
+pub each_map : {X Y : Type 0} (P : X → Type 0) (Q : Y → Type 0) (f : X → Y) → ((x : X) → P x → Q (f x)) → (xs : List X) → Each P xs → Each Q (map f xs)
+each_map P Q f g [] h = tt
+each_map P Q f g (x ∷ xs) h = (g x h.0, each_map P Q f g xs h.1)
+
+pub pairs_map : {X : Type 0} (P : X → Type 0) (R : X → X → Type 0) (f : X → X) → ((x y : X) → P x → P y → R x y → R (f x) (f y)) → (xs : List X) → Each P xs → Pairs R xs → Pairs R (map f xs)
+pairs_map P R f g [] h k = tt
+pairs_map P R f g (x ∷ xs) h k = (each_map (λ y. P y × R x y) (R (f x)) f (λ y m. g x y h.0 m.0 m.1) xs (each_both P (R x) (λ y. P y × R x y) (λ y p q. (p, q)) xs h.1 k.0), pairs_map P R f g xs h.1 k.1)
+
+cond_map : {X : Type 0} (f : X → X) (b : Bool) (x : X) (xs ys : List X) → xs ≡ map f ys → cond b (f x ∷ xs) xs ≡ map f (cond b (x ∷ ys) ys)
+cond_map f true x xs ys e = ap (λ zs. f x ∷ zs) e
+cond_map f false x xs ys e = e
+
+pub filter-map : {X : Type 0} (test was : X → Bool) (f : X → X) (xs : List X) → ((x : X) → test (f x) ≡ was x) → filter test (map f xs) ≡ map f (filter was xs)
+filter-map test was f [] same = refl
+filter-map test was f (x ∷ xs) same =
+    ap (λ b. cond b (f x ∷ filter test (map f xs)) (filter test (map f xs))) (same x)
+    ∙ cond_map f (was x) x (filter test (map f xs)) (filter was xs) (filter-map test was f xs same)
+
+pub any_map : {X : Type 0} (test was : X → Bool) (f : X → X) (xs : List X) → ((x : X) → test (f x) ≡ was x) → list_any test (map f xs) ≡ list_any was xs
+any_map test was f [] same = refl
+any_map test was f (x ∷ xs) same = ap (λ b. b || list_any test (map f xs)) (same x) ∙ ap (λ b. was x || b) (any_map test was f xs same)
+
+pub nil_of_map : {X Y : Type 0} (f : X → Y) (xs : List X) → map f xs ≡ [] → xs ≡ []
+nil_of_map f [] e = refl
+nil_of_map f (x ∷ xs) e = cc

@@ -1,0 +1,17 @@
+use Rattle.std.proofs.Common.{◌≡◌, to_z, of_z, w32, arith}
+use Rattle.std.proofs.lemmas.Int.{ints}
+use Rattle.std.proofs.lemmas.List.Elements.{All-more}
+use Rattle.qws_base.specs.declared.points.Rect.{Rect}
+use Rattle.band_regions.proofs.RowLemmas.{no_rect}
+use Rattle.band_regions.proofs.BandLemmas.{beyond}
+use Rattle.band_regions.proofs.bands.band_len.Goals as goal
+
+pub loop-n-preserved : goal.loop-n-preserved
+loop-n-preserved c =
+    let r = c.requires.is_banded.in_range c.loop-n.n no_rect (omega arith) in
+    (omega arith, All-more (λ (s : Rect). s.y ≡ to_z w32 (of_z w32 c.args.top)) c.args.rects.now c.loop-n.n no_rect (omega arith) c.loop-n.invariant.1 (omega (arith, ints, r.low_y, r.high_y)))
+
+pub returns-else-rects-n-clause-beyond : goal.returns-else-rects-n-clause-beyond
+returns-else-rects-n-clause-beyond c =
+    let r = c.requires.is_banded.in_range c.loop-n.n no_rect (omega arith) in
+    beyond c.args.rects.now c.loop-n.n no_rect c.args.top (omega arith) c.requires.is_banded (c.requires.top c.loop-n.n no_rect (omega arith)) (λ e. c.if-rects-n.false (omega (arith, ints, e, r.low_y, r.high_y)))

@@ -1,0 +1,25 @@
+use Rattle.std.proofs.Common.{◌≡◌, ◌∙◌, sym, to_z, of_z, w32, arith}
+use Rattle.std.proofs.lemmas.Int.{ints}
+use Rattle.band_regions.specs.Bands.{in_row}
+use Rattle.band_regions.proofs.RowLemmas.{no_rect}
+use Rattle.band_regions.proofs.BandLemmas.{cast_y, reach_above, reach_below, none_above, alike_in_band}
+use Rattle.band_regions.proofs.bands.next_row.Goals as goal
+
+pub returns-then-from-rect-clause-no_end_before : goal.returns-then-from-rect-clause-no_end_before
+returns-then-from-rect-clause-no_end_before c = reach_above c.args.rects.now no_rect _ (omega arith) c.requires.is_banded (cast_y c.args.rects.now no_rect (omega arith) c.requires.is_banded.in_range)
+
+pub returns-then-from-rect-clause-uniform : goal.returns-then-from-rect-clause-uniform
+returns-then-from-rect-clause-uniform c p l h =
+    let is = cast_y c.args.rects.now no_rect (omega arith) c.requires.is_banded.in_range in
+    none_above c.args.rects.now no_rect p (omega arith) c.requires.is_banded (omega (arith, ints, is, h))
+    ∙ sym (none_above c.args.rects.now no_rect (in_row c.args.from p) (omega arith) c.requires.is_banded (omega (arith, ints, is, l, h)))
+
+pub returns-else-from-rect-clause-no_end_before : goal.returns-else-from-rect-clause-no_end_before
+returns-else-from-rect-clause-no_end_before c =
+    let cast : to_z w32 (of_z w32 c.bottom_end.result) ≡ c.bottom_end.result = omega (arith, ints) in
+    reach_below c.args.rects.now no_rect _ (omega arith) c.requires.is_banded (cast ∙ c.bottom_end.ensures)
+
+pub returns-else-from-rect-clause-uniform : goal.returns-else-from-rect-clause-uniform
+returns-else-from-rect-clause-uniform c p l h =
+    let is = cast_y c.args.rects.now no_rect (omega arith) c.requires.is_banded.in_range in
+    alike_in_band c.args.rects.now no_rect c.args.from p (omega arith) c.requires.is_banded (omega (arith, ints, is)) l (omega (arith, ints, h, c.bottom_end.ensures))

@@ -1,0 +1,7 @@
+use Rattle.std.proofs.Common.{◌≡◌, map, take}
+use Rattle.qws_base.specs.Points.{shifted}
+use Rattle.band_regions.specs.Ranges.{shift_of}
+use Rattle.band_regions.proofs.regions.Region.shift.Given as goal
+
+abbrev pub invariant-loop-rect : goal.invariant-loop-rect
+invariant-loop-rect l = l.rects.items ≡ map (shifted (shift_of l.dx l.dy)) (take l.rect-index l.rect-items)

@@ -1,0 +1,4 @@
+pub mod Ranges
+pub mod Operations
+pub mod Rows
+pub mod Bands
