@@ -1,7 +1,8 @@
--- The row of a sheet by points: Skip around its part within the rectangle.
-use Rattle.std.proofs.Common.{ℕ, ◌≡◌, ◌+◌, ◌-◌, ◌<◌, ◌≤◌, ℤ, pos, ◌+ℤ◌, true, false, cond, ◌⊎◌, inl, inr, refl, sym, ap, ◌∙◌, arith, List, [], ◌++◌, length, map, take, drop, get_or, slice_range, length-append, length-take, length-drop}
+-- The row of a sheet: Skip around its part within the reach.
+use Rattle.std.proofs.Common.{ℕ, ◌≡◌, ◌+◌, ◌-◌, ◌<◌, ◌≤◌, ℤ, pos, ◌+ℤ◌, false, cond, ◌⊎◌, inl, inr, refl, sym, ap, ◌∙◌, arith, List, [], ◌++◌, length, map, take, drop, get_or, slice_index_or, slice_range, length-append, length-take, length-drop}
 use Rattle.std.proofs.Math.ListN.{replicate}
 use Rattle.std.proofs.lemmas.Bool.{cases_lt}
+use Rattle.std.proofs.lemmas.Int.{ints}
 use Rattle.std.proofs.lemmas.List.{length-replicate, get_or-replicate, get_or_append_left, get_or-append_right, take_at, drop_at, append_assoc, append-nil, take-append-drop, drop_all}
 use Rattle.std.proofs.lemmas.List.FromFn.{fill_by_all, length-map-range_with_len, get_or-map-range_with_len}
 use Rattle.std.specs.List.{range_with_len}
@@ -11,14 +12,19 @@ use Rattle.qws_base.specs.declared.inks.Ink.TheVariants.{Skip}
 use Rattle.qws_base.specs.declared.points.Point.{Point}
 use Rattle.qws_base.specs.declared.points.Rect.{Rect}
 use Rattle.qws_base.specs.Points.{holds}
-use Rattle.qws_base.specs.Sheets.{sheet_of, ink_at, row_of}
+use Rattle.qws_base.specs.Sheets.{Sheet, sheet_of, ink_at, place_in, row_of}
 use Rattle.qws_base.proofs.PictureLaws.{ink_of_sheet}
-use Rattle.gfx_fills.specs.Parts.{IsPart}
+use Rattle.gfx_fills.specs.Parts.{IsPart, IsInside}
 
 abbrev at : ℤ → ℤ → ℕ → Point
 at y x k = record { x = x +ℤ pos k; y = y }
 
--- three pieces, read at a place
+-- two functions that agree on the first n numbers make the same list
+pub same_maps : {X : Type 0} (f g : ℕ → X) (n : ℕ) (d : X) → ((k : ℕ) → k < n → f k ≡ g k) → map f (range_with_len 0 n) ≡ map g (range_with_len 0 n)
+same_maps f g n d h = fill_by_all g (map f (range_with_len 0 n)) n d (length-map-range_with_len f 0 n) (λ k b. get_or-map-range_with_len f 0 n k k d b (omega arith) ∙ h k b)
+
+-- ---- three pieces, read at a place
+
 in_first : (a b c : List Ink) (k : ℕ) → k < length a → get_or (a ++ (b ++ c)) k Skip ≡ get_or a k Skip
 in_first a b c k h = get_or_append_left a (b ++ c) Skip k h
 
@@ -38,57 +44,62 @@ length_pieces : (n from to : ℕ) (mid : List Ink) → from ≤ to → to ≤ n 
 length_pieces n from to mid h g e =
     omega (arith, length-append (replicate from Skip) (mid ++ replicate (n - to) Skip), length-append mid (replicate (n - to) Skip), length-replicate from Skip, length-replicate (n - to) Skip)
 
-outside : (r : Rect) (f : Point → Ink) (p : Point) → holds r p ≡ false → ink_at (sheet_of r f) p ≡ Skip
-outside r f p h = ink_of_sheet r f p ∙ ap (λ b. cond b (f p) Skip) h
+-- ---- the row of a sheet
 
-inside : (r : Rect) (f : Point → Ink) (p : Point) → holds r p ≡ true → ink_at (sheet_of r f) p ≡ f p
-inside r f p h = ink_of_sheet r f p ∙ ap (λ b. cond b (f p) Skip) h
+outside : (sheet : Sheet) (p : Point) → holds sheet.reach p ≡ false → ink_at sheet p ≡ Skip
+outside sheet p h = ap (λ b. cond b (slice_index_or sheet.inks (place_in sheet.reach p) Skip) Skip) h
 
--- the inks of the part within the rectangle
-abbrev pub inside_inks : (Point → Ink) → ℤ → ℤ → ℕ → ℕ → List Ink
-inside_inks f y x from n = map (λ j. f (record { x = x +ℤ pos (from + j); y = y })) (range_with_len 0 n)
+length_row : (sheet : Sheet) (y x : ℤ) (n : ℕ) → length (row_of sheet y x n) ≡ n
+length_row sheet y x n = length-map-range_with_len (λ j. ink_at sheet (at y x j)) 0 n
 
-by_place : (r : Rect) (f : Point → Ink) (y x : ℤ) (n from to k : ℕ) → IsPart r y x n from to → k < n
-    → get_or (pieces n from to (inside_inks f y x from (to - from))) k Skip ≡ ink_at (sheet_of r f) (at y x k)
-by_place r f y x n from to k p h = by (cases_lt k from) (cases_lt k to) where
-  mid : List Ink
-  mid = inside_inks f y x from (to - from)
-
-  len : length (inside_inks f y x from (to - from)) ≡ to - from
-  len = length-map-range_with_len (λ j. f (at y x (from + j))) 0 (to - from)
-
-  by : (k < from) ⊎ (from ≤ k) → (k < to) ⊎ (to ≤ k) → get_or (pieces n from to (inside_inks f y x from (to - from))) k Skip ≡ ink_at (sheet_of r f) (at y x k)
+by_place : (sheet : Sheet) (y x : ℤ) (n from to k : ℕ) → IsPart sheet.reach y x n from to → k < n
+    → get_or (pieces n from to (row_of sheet y (x +ℤ pos from) (to - from))) k Skip ≡ ink_at sheet (at y x k)
+by_place sheet y x n from to k p h = by (cases_lt k from) (cases_lt k to) where
+  by : (k < from) ⊎ (from ≤ k) → (k < to) ⊎ (to ≤ k) → get_or (pieces n from to (row_of sheet y (x +ℤ pos from) (to - from))) k Skip ≡ ink_at sheet (at y x k)
   by (inl a) b =
-      in_first (replicate from Skip) (inside_inks f y x from (to - from)) (replicate (n - to) Skip) k (omega (arith, length-replicate from Skip)) ∙ get_or-replicate from k Skip Skip a ∙ sym (outside r f (at y x k) (p.before k a))
+      in_first (replicate from Skip) (row_of sheet y (x +ℤ pos from) (to - from)) (replicate (n - to) Skip) k (omega (arith, length-replicate from Skip))
+      ∙ get_or-replicate from k Skip Skip a
+      ∙ sym (outside sheet (at y x k) (p.before k a))
   by (inr a) (inl b) =
-      in_second (replicate from Skip) (inside_inks f y x from (to - from)) (replicate (n - to) Skip) from k (length-replicate from Skip) a (omega (arith, len))
-      ∙ get_or-map-range_with_len (λ j. f (at y x (from + j))) 0 (to - from) (k - from) (k - from) Skip (omega arith) (omega arith)
-      ∙ ap (λ i. f (at y x i)) (omega arith)
-      ∙ sym (inside r f (at y x k) (p.inside k a b))
+      let same : (x +ℤ pos from) +ℤ pos (k - from) ≡ x +ℤ pos k = omega (arith, ints) in
+      in_second (replicate from Skip) (row_of sheet y (x +ℤ pos from) (to - from)) (replicate (n - to) Skip) from k (length-replicate from Skip) a (omega (arith, length_row sheet y (x +ℤ pos from) (to - from)))
+      ∙ get_or-map-range_with_len (λ j. ink_at sheet (at y (x +ℤ pos from) j)) 0 (to - from) (k - from) (k - from) Skip (omega arith) (omega arith)
+      ∙ ap (λ i. ink_at sheet (record { x = i; y = y })) same
   by (inr a) (inr b) =
-      in_third (replicate from Skip) (inside_inks f y x from (to - from)) (replicate (n - to) Skip) from to k (length-replicate from Skip) len p.ordered b
+      in_third (replicate from Skip) (row_of sheet y (x +ℤ pos from) (to - from)) (replicate (n - to) Skip) from to k (length-replicate from Skip) (length_row sheet y (x +ℤ pos from) (to - from)) p.ordered b
       ∙ get_or-replicate (n - to) (k - to) Skip Skip (omega arith)
-      ∙ sym (outside r f (at y x k) (p.after k b h))
+      ∙ sym (outside sheet (at y x k) (p.after k b h))
 
-pub row_of_parts : (r : Rect) (f : Point → Ink) (y x : ℤ) (n from to : ℕ) → IsPart r y x n from to
-    → row_of (sheet_of r f) y x n ≡ replicate from Skip ++ (inside_inks f y x from (to - from) ++ replicate (n - to) Skip)
-row_of_parts r f y x n from to p =
-    sym (fill_by_all (λ k. ink_at (sheet_of r f) (at y x k)) (pieces n from to (inside_inks f y x from (to - from))) n Skip
-    (length_pieces n from to (inside_inks f y x from (to - from)) p.ordered p.within (length-map-range_with_len (λ j. f (at y x (from + j))) 0 (to - from)))
-    (λ k h. by_place r f y x n from to k p h))
+row_of_parts : (sheet : Sheet) (y x : ℤ) (n from to : ℕ) → IsPart sheet.reach y x n from to
+    → row_of sheet y x n ≡ replicate from Skip ++ (row_of sheet y (x +ℤ pos from) (to - from) ++ replicate (n - to) Skip)
+row_of_parts sheet y x n from to p =
+    sym (fill_by_all (λ k. ink_at sheet (at y x k)) (pieces n from to (row_of sheet y (x +ℤ pos from) (to - from))) n Skip
+    (length_pieces n from to (row_of sheet y (x +ℤ pos from) (to - from)) p.ordered p.within (length_row sheet y (x +ℤ pos from) (to - from)))
+    (λ k h. by_place sheet y x n from to k p h))
+
+-- a row within the rectangle of a sheet by points
+pub row_inside : (r : Rect) (f : Point → Ink) (y x : ℤ) (n : ℕ) → IsInside r y x n → row_of (sheet_of r f) y x n ≡ map (λ j. f (record { x = x +ℤ pos j; y = y })) (range_with_len 0 n)
+row_inside r f y x n h =
+    same_maps (λ j. ink_at (sheet_of r f) (at y x j)) (λ j. f (at y x j)) n Skip (λ k b. ink_of_sheet r f (at y x k) ∙ ap (λ t. cond t (f (at y x k)) Skip) (h.all k b))
+
+-- the part of a row is inside
+pub part_inside : (r : Rect) (y x : ℤ) (n from to : ℕ) → IsPart r y x n from to → IsInside r y (x +ℤ pos from) (to - from)
+part_inside r y x n from to p = record {
+  all = λ k h.
+      let same : (x +ℤ pos from) +ℤ pos k ≡ x +ℤ pos (from + k) = omega (arith, ints) in
+      ap (λ i. holds r (record { x = i; y = y })) same ∙ p.inside (from + k) (omega arith) (omega arith);
+}
+
+-- ---- what the writes leave
 
 -- a write into the middle piece
-pub put_between : (n from to : ℕ) (was mid : List Ink) (out : List Ink) → from ≤ to → out ≡ replicate from Skip ++ (was ++ replicate (n - to) Skip) → length was ≡ to - from
+put_between : (n from to : ℕ) (was mid : List Ink) (out : List Ink) → from ≤ to → out ≡ replicate from Skip ++ (was ++ replicate (n - to) Skip) → length was ≡ to - from
     → put_mid from (to - from) out mid ≡ replicate from Skip ++ (mid ++ replicate (n - to) Skip)
 put_between n from to was mid out h e d =
     let front = take_at (replicate from Skip) (was ++ replicate (n - to) Skip) from (length-replicate from Skip) in
     let back = drop_at (replicate from Skip) (was ++ replicate (n - to) Skip) from (length-replicate from Skip) in
     let rest = drop_at was (replicate (n - to) Skip) (to - from) d in
     rw (e, front, back, rest) refl
-
--- one ink in all of the part
-pub inside_one : (ink : Ink) (y x : ℤ) (from n : ℕ) → inside_inks (λ p. ink) y x from n ≡ replicate n ink
-inside_one ink y x from n = sym (fill_by_all (λ k. ink) (replicate n ink) n Skip (length-replicate n ink) (λ k h. get_or-replicate n k ink Skip h))
 
 skip_two : (out : List Ink) (from to : ℕ) → from ≤ to → to ≤ length out → take to (replicate from Skip ++ drop from out) ≡ replicate from Skip ++ slice_range out from to
 skip_two out from to h g =
@@ -113,15 +124,6 @@ skipped out a b from to h g e d =
     ∙ ap (λ l. (replicate from Skip ++ slice_range out from to) ++ l) (append-nil b ∙ last)
     ∙ append_assoc (replicate from Skip) (slice_range out from to) (replicate (length out - to) Skip)
 
--- a part that got its inks, with Skip around it, is the sheet's row
-pub row_made : (r : Rect) (f : Point → Ink) (y x : ℤ) (from to : ℕ) (old out made : List Ink) → IsPart r y x (length old) from to
-    → out ≡ replicate from Skip ++ (slice_range old from to ++ replicate (length old - to) Skip) → made ≡ inside_inks f y x from (to - from)
-    → put_mid from (to - from) out made ≡ row_of (sheet_of r f) y x (length old)
-row_made r f y x from to old out made p e d =
-    put_between (length old) from to (slice_range old from to) made out p.ordered e (omega (arith, p.ordered, p.within, length-take (to - from) (drop from old), length-drop from old))
-    ∙ ap (λ l. replicate from Skip ++ (l ++ replicate (length old - to) Skip)) d
-    ∙ sym (row_of_parts r f y x (length old) from to p)
-
 -- how long the part is before its inks are written
 pub part_length : (from to : ℕ) (old out : List Ink) → from ≤ to → to ≤ length old → out ≡ replicate from Skip ++ (slice_range old from to ++ replicate (length old - to) Skip)
     → length (take (to - from) (drop from out)) ≡ to - from
@@ -139,10 +141,23 @@ part_length from to old out h g e =
       length-drop from out,
     )
 
+-- a part that got its inks, with Skip around it, is the sheet's row
+pub row_made : (sheet : Sheet) (y x : ℤ) (from to : ℕ) (old out made : List Ink) → IsPart sheet.reach y x (length old) from to
+    → out ≡ replicate from Skip ++ (slice_range old from to ++ replicate (length old - to) Skip) → made ≡ row_of sheet y (x +ℤ pos from) (length (take (to - from) (drop from out)))
+    → put_mid from (to - from) out made ≡ row_of sheet y x (length old)
+row_made sheet y x from to old out made p e d =
+    let mid : made ≡ row_of sheet y (x +ℤ pos from) (to - from) = d ∙ ap (row_of sheet y (x +ℤ pos from)) (part_length from to old out p.ordered p.within e) in
+    put_between (length old) from to (slice_range old from to) made out p.ordered e (omega (arith, p.ordered, p.within, length-take (to - from) (drop from old), length-drop from old))
+    ∙ ap (λ l. replicate from Skip ++ (l ++ replicate (length old - to) Skip)) mid
+    ∙ sym (row_of_parts sheet y x (length old) from to p)
+
 -- one ink in the part
 pub filled : (r : Rect) (ink : Ink) (y x : ℤ) (from to : ℕ) (old out made : List Ink) → IsPart r y x (length old) from to
     → out ≡ replicate from Skip ++ (slice_range old from to ++ replicate (length old - to) Skip) → made ≡ replicate (length (take (to - from) (drop from out))) ink
     → put_mid from (to - from) out made ≡ row_of (sheet_of r (λ q. ink)) y x (length old)
 filled r ink y x from to old out made p e d =
-    row_made r (λ q. ink) y x from to old out made p e
-    (d ∙ ap (λ n. replicate n ink) (part_length from to old out p.ordered p.within e) ∙ sym (inside_one ink y x from (to - from)))
+    let n : ℕ = length (take (to - from) (drop from out)) in
+    let len : n ≡ to - from = part_length from to old out p.ordered p.within e in
+    let one : replicate n ink ≡ map (λ k. ink) (range_with_len 0 n) = fill_by_all (λ k. ink) (replicate n ink) n Skip (length-replicate n ink) (λ k h. get_or-replicate n k ink Skip h) in
+    let within : IsInside r y (x +ℤ pos from) n = rw len (part_inside r y x (length old) from to p) in
+    row_made (sheet_of r (λ q. ink)) y x from to old out made p e (d ∙ one ∙ sym (row_inside r (λ q. ink) y (x +ℤ pos from) n within))

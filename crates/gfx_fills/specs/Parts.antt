@@ -24,3 +24,7 @@ pub record IsPart (r : Rect) (y x : ℤ) (n from to : ℕ) : Type 0 where
   pub before : (k : ℕ) → k < from → holds r (record { x = x +ℤ pos k; y = y }) ≡ false
   pub inside : (k : ℕ) → from ≤ k → k < to → holds r (record { x = x +ℤ pos k; y = y }) ≡ true
   pub after : (k : ℕ) → to ≤ k → k < n → holds r (record { x = x +ℤ pos k; y = y }) ≡ false
+
+-- the n points of a row from (x, y) on are all in the rectangle
+pub record IsInside (r : Rect) (y x : ℤ) (n : ℕ) : Type 0 where
+  pub all : (k : ℕ) → k < n → holds r (record { x = x +ℤ pos k; y = y }) ≡ true

@@ -1,5 +1,5 @@
 //! The part of a row that lies within a rectangle.
-ghost use Rattle.std.specs.Prelude.{◌≡◌, ◌≤◌, ◌-◌, ◌++◌, length, replicate, slice_range};
+ghost use Rattle.std.specs.Prelude.{◌≡◌, ◌<◌, ◌≤◌, ◌-◌, ◌-ℤ◌, ◌++◌, true, nat_abs, length, replicate, slice_range};
 ghost use Rattle.qws_base.specs.Points.{spans};
 ghost use Rattle.qws_base.specs.declared.inks.Ink.TheVariants.{Skip};
 ghost use Rattle.gfx_fills.specs.Parts.{IsCut, IsPart};
@@ -41,4 +41,13 @@ pub(crate) fn skip_around(from: usize, to: usize, out: &mut [Ink])
 {
     out[..from].fill(Ink::Skip);
     out[to..].fill(Ink::Skip);
+}
+
+/// How many places after `low` the place `at` is.
+pub(crate) fn places_after(low: i32, len: u32, at: i32) -> u32
+    requires { spans low len at ≡ true }
+    ensures value { result ≡ nat_abs (at -ℤ low) }
+    ensures within { result < len }
+{
+    (i64::from(at) - i64::from(low)) as u32
 }
