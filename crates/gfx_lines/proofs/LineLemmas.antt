@@ -1,5 +1,5 @@
 -- The points of a line by their steps.
-use Rattle.std.proofs.Common.{ℕ, zero, suc, ◌≡◌, ◌+◌, ◌*◌, ◌/◌, ◌<◌, ◌≤◌, max, ℤ, pos, negsuc, ◌+ℤ◌, ◌-ℤ◌, ◌≤ℤ◌, ◌<ℤ◌, int_le, nat_abs, Bool, true, false, ◌&&◌, cond, nat_le, nat_lt, List, refl, sym, ap, ◌∙◌, arith, ◌⊎◌, inl, inr}
+use Rattle.std.proofs.Common.{ℕ, ◌≡◌, ◌+◌, ◌*◌, ◌/◌, ◌<◌, ◌≤◌, ℤ, ◌≤ℤ◌, Bool, true, false, ◌&&◌, refl, sym, ap, ◌∙◌, arith, ◌⊎◌, inl, inr}
 use Rattle.std.proofs.lemmas.Int.{ints}
 use Rattle.std.proofs.lemmas.Bool.{cases_lt}
 use Rattle.std.proofs.lemmas.Bool.Decides.{Decides-int_eq, nat_tests}
@@ -9,7 +9,7 @@ use Rattle.std.specs.Ordering.{int_eq}
 use Rattle.qws_base.specs.declared.points.Point.{Point}
 use Rattle.gfx_lines.specs.Lines.{apart, toward, aside, is_flat, is_steep, steps, line_point, same_point, on_line}
 use Rattle.gfx_lines.specs.Walks.{IsWalk}
-use Rattle.gfx_lines.proofs.Tests.{both_true, true_both, false_left, and_comm, same_test, never, list_any_same, found, found_at}
+use Rattle.gfx_lines.proofs.Tests.{both_true, true_both, and_comm, same_test, never, list_any_same, found, found_at}
 
 -- ---- the walk along a line
 

@@ -4,7 +4,7 @@ use Rattle.std.proofs.lemmas.Int.{ints, clamps}
 use Rattle.std.proofs.lemmas.Bool.Decides.{Decides-int_eq, nat_tests}
 use Rattle.std.proofs.lemmas.List.Elements.{All-cons, All-head, All-tail, All-nil}
 use Rattle.std.proofs.lemmas.List.FromFn.{fill_by_all}
-use Rattle.std.specs.List.{fold, All, list_any, range_with_len}
+use Rattle.std.specs.List.{fold, All}
 use Rattle.std.specs.Ordering.{int_eq}
 use Rattle.qws_base.specs.declared.points.Point.{Point}
 use Rattle.qws_base.specs.declared.points.Rect.{Rect}
@@ -17,7 +17,7 @@ use Rattle.gfx_lines.specs.declared.bounds.Bounds.{Bounds}
 use Rattle.gfx_lines.specs.Bounds.{bounds_of_point, grown, bounds_of, rect_of}
 use Rattle.gfx_lines.specs.Lines.{apart, toward, aside, is_flat, is_steep, steps, line_point, same_point, on_line}
 use Rattle.gfx_lines.specs.Strokes.{LineView, line_sheet, on_lines_from, on_polyline, polyline_reach}
-use Rattle.gfx_lines.specs.Walks.{IsWalk, IsLaid}
+use Rattle.gfx_lines.specs.Walks.{IsLaid}
 use Rattle.gfx_lines.proofs.Tests.{both_true, true_both, found, found_at, equal}
 use Rattle.gfx_lines.proofs.LineLemmas.{aside_of_walk, gone_within, toward_low, toward_high, on_slope, steps_of_flat, steps_of_steep, flat_line, steep_line, dot_line, dot_point}
 use Rattle.gfx_lines.proofs.RowLemmas.{pixel}

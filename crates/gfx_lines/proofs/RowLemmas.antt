@@ -1,5 +1,5 @@
 -- Rows of lines.
-use Rattle.std.proofs.Common.{ℕ, ◌≡◌, ◌≢◌, ◌+◌, ◌<◌, ◌≤◌, ℤ, pos, negsuc, ◌+ℤ◌, ◌-ℤ◌, ◌≤ℤ◌, ◌<ℤ◌, Bool, true, false, ◌&&◌, ◌||◌, cond, ltb, zero, suc, add-one, List, [], ◌∷◌, length, take, get_or, set, length-set, get_or-set_same, get_or-set_other, refl, sym, ap, subst, ◌∙◌, arith, ◌⊎◌, inl, inr}
+use Rattle.std.proofs.Common.{ℕ, ◌≡◌, ◌≢◌, ◌+◌, ◌<◌, ◌≤◌, ℤ, pos, ◌+ℤ◌, ◌-ℤ◌, ◌≤ℤ◌, ◌<ℤ◌, Bool, true, false, ◌&&◌, ◌||◌, cond, ltb, zero, suc, List, [], ◌∷◌, length, take, get_or, set, length-set, get_or-set_same, get_or-set_other, refl, sym, ap, subst, ◌∙◌, arith, ◌⊎◌, inl, inr}
 use Rattle.std.proofs.lemmas.Int.{ints, clamps}
 use Rattle.std.proofs.lemmas.Bool.{cases_eq}
 use Rattle.std.proofs.lemmas.Bool.Decides.{Decides-int_eq, nat_tests}
@@ -10,7 +10,7 @@ use Rattle.std.specs.Ordering.{int_eq}
 use Rattle.qws_base.specs.declared.points.Point.{Point}
 use Rattle.qws_base.specs.declared.inks.Ink.{Ink}
 use Rattle.qws_base.specs.declared.inks.Ink.TheVariants.{Skip}
-use Rattle.gfx_lines.specs.Lines.{apart, toward, aside, is_flat, is_steep, same_point, on_line}
+use Rattle.gfx_lines.specs.Lines.{apart, toward, aside, is_flat, is_steep, on_line}
 use Rattle.gfx_lines.specs.Strokes.{on_lines_from, on_polyline}
 use Rattle.gfx_lines.specs.Walks.{IsWalk, IsSteps, IsLaid}
 use Rattle.gfx_lines.proofs.Tests.{equal, unequal, false_right, true_right, never, both_true, true_both, same_test, found}

@@ -1,5 +1,5 @@
 -- The least rectangle that holds some points.
-use Rattle.std.specs.Prelude.{ℕ, ◌+◌, ℤ, pos, negsuc, ◌-ℤ◌, ◌≤ℤ◌, nat_abs, List}
+use Rattle.std.specs.Prelude.{◌+◌, pos, negsuc, ◌-ℤ◌, ◌≤ℤ◌, nat_abs, List}
 use Rattle.std.specs.List.{fold}
 use Rattle.std.specs.Int.{int_min, int_max}
 use Rattle.qws_base.specs.declared.points.Point.{Point}

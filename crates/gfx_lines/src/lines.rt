@@ -45,14 +45,16 @@ impl Line {
 
     /// The point that the line begins with.
     pub fn from(&self) -> Point
-        ensures { result ≡ self.now.from }
+        ensures value { result ≡ self.now.from }
+        ensures placed { IsPlaced result }
     {
         self.from
     }
 
     /// The point that the line ends with.
     pub fn to(&self) -> Point
-        ensures { result ≡ self.now.to }
+        ensures value { result ≡ self.now.to }
+        ensures placed { IsPlaced result }
     {
         self.to
     }

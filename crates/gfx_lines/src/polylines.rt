@@ -44,6 +44,7 @@ fn is_polyline_count(count: usize) -> bool
 impl Polyline {
     ghost use Rattle.std.specs.List.{All};
     ghost use Rattle.qws_base.specs.Points.{IsPlaced};
+    ghost use Rattle.gfx_lines.specs.Strokes.{IsPolyline};
 
     /// The polyline of those points, which it copies, of a colour. Coordinates are in -4,096 to 4,095.
     pub fn new(alloc: Global, points: &[Point], c: Rgb) -> Result<Polyline, PointStop>
@@ -66,7 +67,8 @@ impl Polyline {
 
     /// The points.
     pub fn points(&self) -> &[Point]
-        ensures { result.now ≡ self.now.points }
+        ensures value { result.now ≡ self.now.points }
+        ensures is_polyline { IsPolyline result.now }
     {
         &self.points
     }

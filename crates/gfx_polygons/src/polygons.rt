@@ -45,6 +45,7 @@ fn is_polygon_count(count: usize) -> bool
 impl Polygon {
     ghost use Rattle.std.specs.List.{All};
     ghost use Rattle.qws_base.specs.Points.{IsPlaced};
+    ghost use Rattle.gfx_polygons.specs.Polygons.{IsPolygon};
 
     /// The polygon of those points, which it copies, with an ink. Coordinates are in -4,096 to 4,095.
     pub fn new(alloc: Global, points: &[Point], ink: Ink) -> Result<Polygon, PointStop>
@@ -67,7 +68,8 @@ impl Polygon {
 
     /// The points.
     pub fn points(&self) -> &[Point]
-        ensures { result.now ≡ self.now.points }
+        ensures value { result.now ≡ self.now.points }
+        ensures is_polygon { IsPolygon result.now }
     {
         &self.points
     }

@@ -1,4 +1,4 @@
-use Rattle.std.proofs.Common.{◌≡◌, to_z, of_z, w32, arith, sym, ap, ◌∙◌}
+use Rattle.std.proofs.Common.{◌≡◌, to_z, of_z, w32, arith, ap}
 use Rattle.std.proofs.lemmas.Int.{ints}
 use Rattle.qws_base.specs.declared.inks.Ink.TheVariants.{Copy}
 use Rattle.gfx_lines.proofs.RowLemmas.{dot_row, dot_none}

@@ -1,5 +1,4 @@
-use Rattle.std.proofs.Common.{◌≡◌, ◌+◌, ◌-◌, to_z, of_z, w32, arith}
-use Rattle.std.proofs.lemmas.Int.{ints}
+use Rattle.std.proofs.Common.{◌-◌, to_z, of_z, w32, arith}
 use Rattle.qws_base.specs.declared.inks.Ink.TheVariants.{Copy}
 use Rattle.gfx_lines.proofs.RowLemmas.{laid_more_lines}
 use Rattle.gfx_lines.proofs.walks.lay_lines.Goals as goal

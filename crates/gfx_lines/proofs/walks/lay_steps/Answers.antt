@@ -1,7 +1,6 @@
-use Rattle.std.proofs.Common.{◌≡◌, ◌≤◌, ◌<◌, ◌+◌, to_z, of_z, w32, arith, ◌∙◌, sym, ap}
+use Rattle.std.proofs.Common.{◌≡◌, to_z, of_z, w32, arith}
 use Rattle.std.proofs.lemmas.Int.{ints}
 use Rattle.qws_base.specs.declared.inks.Ink.TheVariants.{Copy}
-use Rattle.gfx_lines.specs.Walks.{IsSteps}
 use Rattle.gfx_lines.proofs.LineLemmas.{gone_within, walk_on}
 use Rattle.gfx_lines.proofs.RowLemmas.{flat_start, flat_step, flat_end, flat_from}
 use Rattle.gfx_lines.proofs.walks.lay_steps.Goals as goal

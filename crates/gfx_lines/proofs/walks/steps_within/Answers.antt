@@ -1,4 +1,4 @@
-use Rattle.std.proofs.Common.{arith, ◌+ℤ◌, ◌-ℤ◌, pos, to_z, of_z, w32, ℤ}
+use Rattle.std.proofs.Common.{arith, ◌+ℤ◌, ◌-ℤ◌, to_z, of_z, w32, ℤ}
 use Rattle.std.proofs.lemmas.Int.{ints}
 use Rattle.gfx_lines.proofs.RowLemmas.{steps_up, steps_down}
 use Rattle.gfx_lines.proofs.walks.steps_within.Goals as goal

@@ -1,6 +1,5 @@
 use Rattle.std.proofs.Common.{◌≡◌, to_z, of_z, w32, arith, ◌∙◌, refl}
 use Rattle.std.proofs.lemmas.Int.{ints, clamps}
-use Rattle.std.specs.Int.{int_min, int_max}
 use Rattle.gfx_lines.proofs.bounds.Bounds.grown.Goals as goal
 
 pub returns-clause-value : goal.returns-clause-value
