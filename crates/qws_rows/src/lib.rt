@@ -3,3 +3,5 @@
 
 #[cfg(test)]
 mod script_rows;
+#[cfg(test)]
+mod shape_rows;

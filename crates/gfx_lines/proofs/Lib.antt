@@ -1,0 +1,4 @@
+pub mod Tests
+pub mod LineLemmas
+pub mod RowLemmas
+pub mod ReachLemmas

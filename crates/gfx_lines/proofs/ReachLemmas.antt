@@ -1,0 +1,198 @@
+-- Bounds hold their points, and the points of the lines between them.
+use Rattle.std.proofs.Common.{ℕ, ◌≡◌, ◌+◌, ◌*◌, ◌/◌, ◌%◌, ◌<◌, ◌≤◌, ℤ, pos, ◌+ℤ◌, ◌-ℤ◌, ◌≤ℤ◌, int_le, int_lt, nat_abs, Bool, true, false, ◌&&◌, ◌||◌, cond, List, [], ◌∷◌, length, get_or, refl, sym, ap, ◌∙◌, arith, ◌⊎◌, inl, inr}
+use Rattle.std.proofs.lemmas.Int.{ints, clamps}
+use Rattle.std.proofs.lemmas.Bool.Decides.{Decides-int_eq, nat_tests}
+use Rattle.std.proofs.lemmas.List.Elements.{All-cons, All-head, All-tail, All-nil}
+use Rattle.std.proofs.lemmas.List.FromFn.{fill_by_all}
+use Rattle.std.specs.List.{fold, All}
+use Rattle.std.specs.Ordering.{int_eq}
+use Rattle.qws_base.specs.declared.points.Point.{Point}
+use Rattle.qws_base.specs.declared.points.Rect.{Rect}
+use Rattle.qws_base.specs.declared.inks.Ink.{Ink}
+use Rattle.qws_base.specs.declared.inks.Ink.TheVariants.{Skip, Copy}
+use Rattle.qws_base.specs.Points.{spans, holds}
+use Rattle.qws_base.specs.Sheets.{sheet_of, ink_at, row_of}
+use Rattle.qws_base.proofs.PictureLaws.{ink_of_sheet}
+use Rattle.gfx_lines.specs.declared.bounds.Bounds.{Bounds}
+use Rattle.gfx_lines.specs.Bounds.{bounds_of_point, grown, bounds_of, rect_of}
+use Rattle.gfx_lines.specs.Lines.{apart, toward, aside, is_flat, is_steep, steps, line_point, same_point, on_line}
+use Rattle.gfx_lines.specs.Strokes.{LineView, line_sheet, on_lines_from, on_polyline, polyline_reach}
+use Rattle.gfx_lines.specs.Walks.{IsLaid}
+use Rattle.gfx_lines.proofs.Tests.{both_true, true_both, found, found_at, equal}
+use Rattle.gfx_lines.proofs.LineLemmas.{aside_of_walk, gone_within, toward_low, toward_high, on_slope, steps_of_flat, steps_of_steep, flat_line, steep_line, dot_line, dot_point}
+use Rattle.gfx_lines.proofs.RowLemmas.{pixel}
+
+pub record Holds (b : Bounds) (p : Point) : Type 0 where
+  pub left : b.left ≤ℤ p.x
+  pub right : p.x ≤ℤ b.right
+  pub top : b.top ≤ℤ p.y
+  pub bottom : p.y ≤ℤ b.bottom
+
+-- ---- bounds that grow
+
+grown_holds : (b : Bounds) (p : Point) → Holds (grown b p) p
+grown_holds b p = record { left = omega (arith, ints, clamps); right = omega (arith, ints, clamps); top = omega (arith, ints, clamps); bottom = omega (arith, ints, clamps) }
+
+grown_keeps : (b : Bounds) (p q : Point) → Holds b q → Holds (grown b p) q
+grown_keeps b p q h = record {
+  left = omega (arith, ints, clamps, h.left);
+  right = omega (arith, ints, clamps, h.right);
+  top = omega (arith, ints, clamps, h.top);
+  bottom = omega (arith, ints, clamps, h.bottom);
+}
+
+fold_keeps : (b : Bounds) (ps : List Point) (q : Point) → Holds b q → Holds (fold grown b ps) q
+fold_keeps b [] q h = h
+fold_keeps b (p ∷ ps) q h = fold_keeps (grown b p) ps q (grown_keeps b p q h)
+
+fold_holds : (b : Bounds) (ps : List Point) → All (Holds (fold grown b ps)) ps
+fold_holds b [] = All-nil (Holds b)
+fold_holds b (p ∷ ps) = All-cons (Holds (fold grown (grown b p) ps)) p ps (fold_keeps (grown b p) ps p (grown_holds b p)) (fold_holds (grown b p) ps)
+
+pub bounds_first : (p : Point) (ps : List Point) → Holds (bounds_of p ps) p
+bounds_first p ps = fold_keeps (bounds_of_point p) ps p (record { left = omega (arith, ints); right = omega (arith, ints); top = omega (arith, ints); bottom = omega (arith, ints) })
+
+pub bounds_rest : (p : Point) (ps : List Point) → All (Holds (bounds_of p ps)) ps
+bounds_rest p ps = fold_holds (bounds_of_point p) ps
+
+le_test : (a b : ℤ) → a ≤ℤ b → int_le a b ≡ true
+le_test a b h = grind (arith, ints)
+
+lt_test : (left right at : ℤ) → left ≤ℤ at → at ≤ℤ right → int_lt at (left +ℤ pos (nat_abs (right -ℤ left) + 1)) ≡ true
+lt_test left right at h g = grind (arith, ints)
+
+pub holds_rect : (b : Bounds) (p : Point) → Holds b p → holds (rect_of b) p ≡ true
+holds_rect b p h =
+    true_both (spans b.left (nat_abs (b.right -ℤ b.left) + 1) p.x) (spans b.top (nat_abs (b.bottom -ℤ b.top) + 1) p.y)
+    (true_both (int_le b.left p.x) _ (le_test b.left p.x h.left) (lt_test b.left b.right p.x h.left h.right))
+    (true_both (int_le b.top p.y) _ (le_test b.top p.y h.top) (lt_test b.top b.bottom p.y h.top h.bottom))
+
+-- ---- the points of a line
+
+aside_within : (long short k : ℕ) → 0 < long → k ≤ long → aside long short k ≤ short
+aside_within long short k some h =
+    let sum : ℕ = 2 * k * short + long in
+    gone_within long short k (sum / (2 * long)) (sum % (2 * long)) (record { sum = omega arith; below = omega arith }) h
+
+between : (low high a b at : ℤ) (k : ℕ) → low ≤ℤ a → low ≤ℤ b → a ≤ℤ high → b ≤ℤ high → k ≤ apart a b → toward a b k ≡ at → (low ≤ℤ at) × (at ≤ℤ high)
+between low high a b at k la lb ha hb few e =
+    let l = toward_low low a b k few la lb in
+    let h = toward_high high a b k few ha hb in
+    (omega (arith, ints), omega (arith, ints))
+
+slope_within : (low high low' high' a b a' b' at across : ℤ) → 0 < apart a b → low ≤ℤ a → low ≤ℤ b → a ≤ℤ high → b ≤ℤ high → low' ≤ℤ a' → low' ≤ℤ b' → a' ≤ℤ high' → b' ≤ℤ high'
+    → on_slope a b a' b' at across ≡ true → ((low ≤ℤ at) × (at ≤ℤ high)) × ((low' ≤ℤ across) × (across ≤ℤ high'))
+slope_within low high low' high' a b a' b' at across some la lb ha hb la' lb' ha' hb' t =
+    let f = found (λ k. int_eq (toward a b k) at && int_eq (toward a' b' (aside (apart a b) (apart a' b') k)) across) (apart a b) t in
+    let p = both_true _ _ f.2 in (
+      between low high a b at f.0 la lb ha hb f.1 ((Decides-int_eq _ _).0 p.0),
+      between low' high' a' b' across (aside (apart a b) (apart a' b') f.0) la' lb' ha' hb' (aside_within (apart a b) (apart a' b') f.0 some f.1) ((Decides-int_eq _ _).0 p.1),
+    )
+
+flat_some : (a b : Point) → is_flat a b ≡ true → 0 < apart a.x b.x
+flat_some a b h = grind (arith, nat_tests)
+
+steep_some : (a b : Point) → is_steep a b ≡ true → 0 < apart a.y b.y
+steep_some a b h = grind (arith, nat_tests)
+
+pub line_within : (r : Bounds) (a b p : Point) → Holds r a → Holds r b → on_line a b p ≡ true → Holds r p
+line_within r a b p ha hb t = by (is_flat a b) (is_steep a b) refl refl where
+  by : (f s : Bool) → is_flat a b ≡ f → is_steep a b ≡ s → Holds r p
+  by true s flat steep =
+      let w = slope_within r.left r.right r.top r.bottom a.x b.x a.y b.y p.x p.y (flat_some a b flat) ha.left hb.left ha.right hb.right ha.top hb.top ha.bottom hb.bottom (sym (flat_line a b p flat) ∙ t) in
+      record { left = w.0.0; right = w.0.1; top = w.1.0; bottom = w.1.1 }
+  by false true flat steep =
+      let w = slope_within r.top r.bottom r.left r.right a.y b.y a.x b.x p.y p.x (steep_some a b steep) ha.top hb.top ha.bottom hb.bottom ha.left hb.left ha.right hb.right (sym (steep_line a b p steep) ∙ t) in
+      record { left = w.1.0; right = w.1.1; top = w.0.0; bottom = w.0.1 }
+  by false false flat steep =
+      let s = both_true (int_eq a.x p.x) (int_eq a.y p.y) (sym (dot_line a b p flat steep) ∙ t) in
+      let x : a.x ≡ p.x = (Decides-int_eq a.x p.x).0 s.0 in
+      let y : a.y ≡ p.y = (Decides-int_eq a.y p.y).0 s.1 in
+      record { left = omega (arith, ints, ha.left); right = omega (arith, ints, ha.right); top = omega (arith, ints, ha.top); bottom = omega (arith, ints, ha.bottom) }
+
+either : (a b : Bool) → (a || b) ≡ true → (a ≡ true) ⊎ (b ≡ true)
+either true b h = inl refl
+either false b h = inr h
+
+pub lines_within : (r : Bounds) (a : Point) (rest : List Point) (p : Point) → Holds r a → All (Holds r) rest → on_lines_from a rest p ≡ true → Holds r p
+lines_within r a [] p ha all t = cc
+lines_within r a (b ∷ rest) p ha all t =
+    by (either (on_line a b p) (on_lines_from b rest p) t) (lines_within r b rest p (All-head (Holds r) b rest all) (All-tail (Holds r) b rest all)) where
+      by : (on_line a b p ≡ true) ⊎ (on_lines_from b rest p ≡ true) → (on_lines_from b rest p ≡ true → Holds r p) → Holds r p
+      by (inl h) later = line_within r a b p ha (All-head (Holds r) b rest all) h
+      by (inr h) later = later h
+
+pub polyline_within : (ps : List Point) (p : Point) → on_polyline ps p ≡ true → holds (polyline_reach ps) p ≡ true
+polyline_within [] p t = cc
+polyline_within (a ∷ rest) p t = holds_rect (bounds_of a rest) p (lines_within (bounds_of a rest) a rest p (bounds_first a rest) (bounds_rest a rest) t)
+
+-- ---- the ends of a line
+
+same_from_none : (a b : Point) → apart a.x b.x ≡ 0 → apart a.y b.y ≡ 0 → a ≡ b
+same_from_none a b h g =
+    let x : a.x ≡ b.x = omega (arith, ints) in
+    let y : a.y ≡ b.y = omega (arith, ints) in
+    ap (λ v. let p : Point = record { x = v; y = a.y } in p) x ∙ ap (λ v. let p : Point = record { x = b.x; y = v } in p) y
+
+toward_none : (a b : ℤ) → toward a b 0 ≡ a
+toward_none a b = grind (arith, ints)
+
+toward_all : (a b : ℤ) → toward a b (apart a b) ≡ b
+toward_all a b = grind (arith, ints)
+
+on_line_at : (a b p : Point) (k : ℕ) → k ≤ steps a b → line_point a b k ≡ p → on_line a b p ≡ true
+on_line_at a b p k few e =
+    found_at (λ j. same_point (line_point a b j) p) (steps a b) k few
+    (ap (λ q. same_point q p) e ∙ true_both (int_eq p.x p.x) (int_eq p.y p.y) (equal p.x p.x refl) (equal p.y p.y refl))
+
+aside_none : (long short : ℕ) → 0 < long → aside long short 0 ≡ 0
+aside_none long short some = aside_of_walk long short 0 0 long (record { sum = omega arith; below = omega arith })
+
+aside_all : (long short : ℕ) → 0 < long → aside long short long ≡ short
+aside_all long short some = aside_of_walk long short long short long (record { sum = omega arith; below = omega arith })
+
+first_point : (a b : Point) → line_point a b 0 ≡ a
+first_point a b = by (is_flat a b) (is_steep a b) refl refl where
+  by : (f s : Bool) → is_flat a b ≡ f → is_steep a b ≡ s → line_point a b 0 ≡ a
+  by true s flat steep = rw (flat, aside_none (apart a.x b.x) (apart a.y b.y) (flat_some a b flat), toward_none a.x b.x, toward_none a.y b.y) refl
+  by false true flat steep = rw (flat, steep, aside_none (apart a.y b.y) (apart a.x b.x) (steep_some a b steep), toward_none a.x b.x, toward_none a.y b.y) refl
+  by false false flat steep = dot_point a b 0 flat steep
+
+last_point : (a b : Point) → line_point a b (steps a b) ≡ b
+last_point a b = by (is_flat a b) (is_steep a b) refl refl where
+  by : (f s : Bool) → is_flat a b ≡ f → is_steep a b ≡ s → line_point a b (steps a b) ≡ b
+  by true s flat steep =
+      ap (line_point a b) (steps_of_flat a b flat) ∙ rw (flat, aside_all (apart a.x b.x) (apart a.y b.y) (flat_some a b flat), toward_all a.x b.x, toward_all a.y b.y) refl
+  by false true flat steep =
+      ap (line_point a b) (steps_of_steep a b steep) ∙ rw (flat, steep, aside_all (apart a.y b.y) (apart a.x b.x) (steep_some a b steep), toward_all a.x b.x, toward_all a.y b.y) refl
+  by false false flat steep = dot_point a b (steps a b) flat steep ∙ same_from_none a b (grind (arith, nat_tests)) (grind (arith, nat_tests))
+
+line_ink : (l : LineView) (p : Point) → on_line l.from l.to p ≡ true → ink_at (line_sheet l) p ≡ Copy l.colour
+line_ink l p t =
+    let b : Bounds = bounds_of l.from (l.to ∷ []) in
+    let held = holds_rect b p (line_within b l.from l.to p (bounds_first l.from (l.to ∷ [])) (All-head (Holds b) l.to [] (bounds_rest l.from (l.to ∷ []))) t) in
+    ink_of_sheet (rect_of b) (λ q. cond (on_line l.from l.to q) (Copy l.colour) Skip) p
+    ∙ ap (λ h. cond h (cond (on_line l.from l.to p) (Copy l.colour) Skip) Skip) held
+    ∙ ap (λ h. cond h (Copy l.colour) Skip) t
+
+pub first_end : (l : LineView) → ink_at (line_sheet l) l.from ≡ Copy l.colour
+first_end l = line_ink l l.from (on_line_at l.from l.to l.from 0 (omega arith) (first_point l.from l.to))
+
+pub last_end : (l : LineView) → ink_at (line_sheet l) l.to ≡ Copy l.colour
+last_end l = line_ink l l.to (on_line_at l.from l.to l.to (steps l.from l.to) (omega arith) (last_point l.from l.to))
+
+-- ---- a row that got its ink from Skip
+
+inked : (t : Bool) (r : Rect) (f : Point → Bool) (ink : Ink) (p : Point) → f p ≡ t → (f p ≡ true → holds r p ≡ true)
+    → cond t ink Skip ≡ ink_at (sheet_of r (λ q. cond (f q) ink Skip)) p
+inked true r f ink p e h = sym (ink_of_sheet r (λ q. cond (f q) ink Skip) p ∙ ap (λ b. cond b (cond (f p) ink Skip) Skip) (h e) ∙ ap (λ b. cond b ink Skip) e)
+inked false r f ink p e h = sym (ink_of_sheet r (λ q. cond (f q) ink Skip) p ∙ ap (λ b. cond (holds r p) (cond b ink Skip) Skip) e ∙ nothing (holds r p)) where
+  nothing : (b : Bool) → cond b Skip Skip ≡ Skip
+  nothing true = refl
+  nothing false = refl
+
+pub row_of_laid : (r : Rect) (f : Point → Bool) (ink : Ink) (y x : ℤ) (was now : List Ink) (n : ℕ) → length was ≡ n → ((k : ℕ) → k < length was → get_or was k Skip ≡ Skip) → IsLaid f ink y x was now
+    → ((p : Point) → f p ≡ true → holds r p ≡ true) → now ≡ row_of (sheet_of r (λ p. cond (f p) ink Skip)) y x n
+row_of_laid r f ink y x was now n e none laid within =
+    fill_by_all (λ k. ink_at (sheet_of r (λ p. cond (f p) ink Skip)) (pixel y x k)) now n Skip (laid.same_length ∙ e)
+    (λ k below. laid.at k (omega arith) ∙ ap (λ i. cond (f (pixel y x k)) ink i) (none k (omega arith)) ∙ inked (f (pixel y x k)) r f ink (pixel y x k) refl (within (pixel y x k)))

@@ -1,0 +1,12 @@
+//! Lines and polylines as pictures.
+#![tactic(auto)]
+
+mod bounds;
+mod laws;
+mod lines;
+mod polylines;
+mod walks;
+
+pub use laws::line_ends;
+pub use lines::Line;
+pub use polylines::{PointStop, Polyline};

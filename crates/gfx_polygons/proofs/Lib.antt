@@ -1,0 +1,5 @@
+pub mod Tests
+pub mod EdgeLemmas
+pub mod PlaceLemmas
+pub mod LawLemmas
+pub mod RowLemmas

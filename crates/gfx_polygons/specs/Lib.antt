@@ -1,0 +1,2 @@
+pub mod Polygons
+pub mod Crossings

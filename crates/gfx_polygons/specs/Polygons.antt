@@ -1,0 +1,97 @@
+-- What a polygon shows: the points inside its ring.
+use Rattle.std.specs.Prelude.{ℕ, ◌%◌, ◌==◌, ◌≤◌, ℤ, pos, negsuc, ◌+ℤ◌, ◌-ℤ◌, ◌*ℤ◌, ◌≤ℤ◌, int_le, int_lt, nat_abs, Bool, false, ◌&&◌, List, [], ◌∷◌, length, slice_index_or, if◌then◌else◌}
+use Rattle.std.specs.List.{All, filter, fold}
+use Rattle.std.specs.Int.{int_min, int_max}
+use Rattle.qws_base.specs.declared.points.Point.{Point}
+use Rattle.qws_base.specs.declared.points.Rect.{Rect}
+use Rattle.qws_base.specs.declared.inks.Ink.{Ink}
+use Rattle.qws_base.specs.declared.inks.Ink.TheVariants.{Skip}
+use Rattle.qws_base.specs.Points.{IsPlaced}
+use Rattle.qws_base.specs.Sheets.{Sheet, sheet_of}
+use Rattle.gfx_polygons.specs.declared.bounds.Bounds.{Bounds}
+
+-- ---- the rule: in half pixels a vertex lies at doubled coordinates, and a point's centre half a pixel further
+
+abbrev pub doubled : ℤ → ℤ
+doubled c = c +ℤ c
+
+abbrev pub centre : ℤ → ℤ
+centre c = doubled c +ℤ pos 1
+
+-- an edge from its upper end to its lower one counts for a point whose centre is in its rows, and on it or to its right
+abbrev pub counts_down : Point → Point → Point → Bool
+counts_down u l p =
+    int_le (doubled u.y) (centre p.y) && (int_lt (centre p.y) (doubled l.y)
+    && int_le (doubled u.x *ℤ (doubled l.y -ℤ doubled u.y) +ℤ (centre p.y -ℤ doubled u.y) *ℤ (doubled l.x -ℤ doubled u.x)) (centre p.x *ℤ (doubled l.y -ℤ doubled u.y)))
+
+-- an edge within a row counts for no point
+abbrev pub counts : Point → Point → Point → Bool
+counts a b p = if int_lt a.y b.y then counts_down a b p else (if int_lt b.y a.y then counts_down b a p else false)
+
+-- the edges from a point through those of a list
+abbrev pub edges_from : Point → List Point → List (Point × Point)
+edges_from a [] = []
+edges_from a (b ∷ rest) = (a, b) ∷ edges_from b rest
+
+-- the closed ring: from the last point to the first, and on through the list
+abbrev pub ring : List Point → List (Point × Point)
+ring [] = []
+ring (a ∷ rest) = edges_from (slice_index_or (a ∷ rest) (length rest) a) (a ∷ rest)
+
+-- how many edges count for a point
+abbrev pub counted : List (Point × Point) → Point → ℕ
+counted edges p = length (filter (λ e. counts e.0 e.1 p) edges)
+
+-- a point is inside where that number is odd
+abbrev pub is_inside : List Point → Point → Bool
+is_inside points p = counted (ring points) p % 2 == 1
+
+-- ---- the rectangle of its points
+
+abbrev pub bounds_of_point : Point → Bounds
+bounds_of_point p = record { left = p.x; top = p.y; right = p.x; bottom = p.y }
+
+-- wide enough for a point more
+abbrev pub grown : Bounds → Point → Bounds
+grown b p = record { left = int_min b.left p.x; top = int_min b.top p.y; right = int_max b.right p.x; bottom = int_max b.bottom p.y }
+
+abbrev pub bounds_of : Point → List Point → Bounds
+bounds_of p ps = fold grown (bounds_of_point p) ps
+
+-- the pixels between the outermost vertices
+abbrev pub rect_of : Bounds → Rect
+rect_of b = record { x = b.left; y = b.top; w = nat_abs (b.right -ℤ b.left); h = nat_abs (b.bottom -ℤ b.top) }
+
+abbrev pub polygon_reach : List Point → Rect
+polygon_reach [] = record { x = pos 0; y = pos 0; w = 0; h = 0 }
+polygon_reach (a ∷ rest) = rect_of (bounds_of a rest)
+
+-- bounds of points in -4,096 to 4,095
+pub record AreBounds (b : Bounds) : Type 0 where
+  pub low_x : negsuc 4095 ≤ℤ b.left
+  pub columns : b.left ≤ℤ b.right
+  pub high_x : b.right ≤ℤ pos 4095
+  pub low_y : negsuc 4095 ≤ℤ b.top
+  pub rows : b.top ≤ℤ b.bottom
+  pub high_y : b.bottom ≤ℤ pos 4095
+
+-- ---- the polygon
+
+-- a polygon is seen as its points and its ink
+pub record PolygonView : Type 0 where
+  pub points : List Point
+  pub ink : Ink
+
+-- the ink at each point inside
+abbrev pub polygon_sheet : PolygonView → Sheet
+polygon_sheet v = sheet_of (polygon_reach v.points) (λ p. if is_inside v.points p then v.ink else Skip)
+
+-- a polygon has 3 to 64 points
+pub record IsPolygonCount (n : ℕ) : Type 0 where
+  pub least : 3 ≤ n
+  pub most : n ≤ 64
+
+-- and they are in -4,096 to 4,095
+pub record IsPolygon (points : List Point) : Type 0 where
+  pub count : IsPolygonCount (length points)
+  pub placed : All IsPlaced points
