@@ -72,14 +72,22 @@ pub fn empty_boxes(alloc: Global) -> Result<Vec<Mailbox>, OutOfMemory>
     Ok(boxes)
 }
 
-/// The oldest event leaves the mailbox.
+fn take_in(mailbox: &mut Mailbox) -> Option<Event>
+    ensures oldest { result ≡ slice_get mailbox.old.items 0 }
+    ensures rest { mailbox.new.items ≡ drop 1 mailbox.old.items }
+    ensures items { mailbox.old.items ≡ option_to_list result ++ mailbox.new.items }
+{
+    mailbox.pop_front()
+}
+
+/// The oldest event leaves the client's mailbox.
 pub fn take_oldest(boxes: &mut [Mailbox], client: u32) -> Option<Event>
     requires { client < length boxes.old }
     ensures oldest { result ≡ slice_get (mailbox_of (boxes_of boxes.old) client) 0 }
     ensures taken { boxes_of boxes.new ≡ slice_set (boxes_of boxes.old) client (drop 1 (mailbox_of (boxes_of boxes.old) client)) }
     ensures kept { IfNone result (boxes_of boxes.new ≡ boxes_of boxes.old) }
 {
-    boxes[client as usize].pop_front()
+    take_in(&mut boxes[client as usize])
 }
 
 fn has_region(mailbox: &Mailbox, slot: u32) -> bool
