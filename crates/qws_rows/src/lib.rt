@@ -2,6 +2,8 @@
 #![tactic(auto)]
 
 #[cfg(test)]
+mod channel_rows;
+#[cfg(test)]
 mod script_rows;
 #[cfg(test)]
 mod shape_rows;

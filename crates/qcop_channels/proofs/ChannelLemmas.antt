@@ -1,0 +1,183 @@
+-- The entries of the map as channels: what a look-up finds, and what a write and a new key leave.
+use Rattle.std.proofs.Common.{◌≡◌, ℕ, ◌++◌, [], ◌∷◌, List, Bool, true, false, ◌||◌, not, cond, if◌then◌else◌, map, length, eqb, nat_le, Option, Some, None, is_some, refl, sym, ap, ◌∙◌, arith}
+use Rattle.std.specs.List.{find, IsDistinct, AllByRecursion, AllZip}
+use Rattle.std.specs.Option.{option_map_or}
+use Rattle.std.specs.Map.{keys_of, lookup, set_value}
+use Rattle.std.specs.Str.{bytes_eq}
+use Rattle.std.specs.Vec.{vec_len}
+use Rattle.std.specs.declared.vec.Vec.{Vec}
+use Rattle.std.proofs.lemmas.Map.Keys.{IsDistinct-head, IsDistinct-tail}
+use Rattle.std.proofs.lemmas.Bool.Decides.{nat_tests}
+use Rattle.std.proofs.lemmas.Slice.Eq.{bytes_eq-Decides}
+use Rattle.std.proofs.lemmas.List.{map-append}
+use Rattle.qws_base.specs.declared.replies.Refusal.TheVariants as cause
+use Rattle.qcop_channels.specs.Stops.{join_cause, leave_cause}
+use Rattle.qws_base.specs.Mail.{first_cause, is_name, channels_joined, Channel, has_name, is_known, subscribers_of, resubscribed, is_among}
+use Rattle.qcop_channels.specs.Views.{channel_of, channels_of}
+
+eqb-flip : (x y : ℕ) → eqb x y ≡ eqb y x
+eqb-flip x y = grind (arith, nat_tests)
+
+bytes_eq-flip : (xs ys : List ℕ) → bytes_eq xs ys ≡ bytes_eq ys xs
+bytes_eq-flip [] [] = refl
+bytes_eq-flip [] (y ∷ ys) = refl
+bytes_eq-flip (x ∷ xs) [] = refl
+bytes_eq-flip (x ∷ xs) (y ∷ ys) = let head = eqb-flip x y in let tail = bytes_eq-flip xs ys in cc
+
+-- whether a key has the name
+abbrev pub names : {Y : Type 0} → List ℕ → Vec ℕ Y → Bool
+names name key = bytes_eq name key.items
+
+known_step : {X : Type 0} (b : Bool) (v : X) (r : Option X) (k : Bool) → is_some r ≡ k → is_some (cond b (Some v) r) ≡ (b || k)
+known_step true v r k h = refl
+known_step false v r k h = h
+
+none_from_false : {X : Type 0} (r : Option X) → is_some r ≡ false → r ≡ None
+none_from_false None h = refl
+none_from_false (Some x) h = cc
+
+module _ {Y Z : Type 0} where
+  -- a channel is known where a key has its name
+  pub is_known-lookup : (entries : List (Vec ℕ Y × Vec ℕ Z)) (name : List ℕ) → is_some (lookup (names name) entries) ≡ is_known (channels_of entries) name
+  is_known-lookup [] name = refl
+  is_known-lookup (e ∷ es) name =
+      known_step (bytes_eq name e.0.items) e.1 (lookup (names name) es) (is_known (channels_of es) name) (is_known-lookup es name)
+      ∙ ap (λ (b : Bool). b || is_known (channels_of es) name) (bytes_eq-flip name e.0.items)
+
+  found_step : (b c : Bool) (e : Vec ℕ Y × Vec ℕ Z) (r : Option (Vec ℕ Z)) (f : Option Channel) → b ≡ c → option_map_or (λ (w : Channel). w.subscribers) f [] ≡ option_map_or (λ (w : Vec ℕ Z). w.items) r []
+      → option_map_or (λ (w : Channel). w.subscribers) (cond b (Some (channel_of e)) f) [] ≡ option_map_or (λ (w : Vec ℕ Z). w.items) (cond c (Some e.1) r) []
+  found_step true true e r f same h = refl
+  found_step true false e r f same h = cc
+  found_step false true e r f same h = cc
+  found_step false false e r f same h = h
+
+  -- its subscribers are what the map has there
+  pub subscribers_of-lookup : (entries : List (Vec ℕ Y × Vec ℕ Z)) (name : List ℕ) → subscribers_of (channels_of entries) name ≡ option_map_or (λ (w : Vec ℕ Z). w.items) (lookup (names name) entries) []
+  subscribers_of-lookup [] name = refl
+  subscribers_of-lookup (e ∷ es) name =
+      found_step (bytes_eq e.0.items name) (bytes_eq name e.0.items) e (lookup (names name) es) (find (has_name name) (channels_of es)) (bytes_eq-flip e.0.items name) (subscribers_of-lookup es name)
+
+  module _ (name : List ℕ) (change : List ℕ → List ℕ) where
+    resubscribed_other : (e : Vec ℕ Y × Vec ℕ Z) → bytes_eq e.0.items name ≡ false → resubscribed name change (channel_of e) ≡ channel_of e
+    resubscribed_other e h = ap (λ (b : Bool). record (channel_of e) { subscribers = if b then change e.1.items else e.1.items }) h
+
+    others : (key : Vec ℕ Y) (es : List (Vec ℕ Y × Vec ℕ Z)) → bytes_eq name key.items ≡ true → AllByRecursion (λ (y : Vec ℕ Y). bytes_eq key.items y.items ≡ false) (keys_of es)
+        → map (resubscribed name change) (channels_of es) ≡ channels_of es
+    others key [] same apart = refl
+    others key (e ∷ es) same apart =
+        let equal : name ≡ key.items = (bytes_eq-Decides name key.items).0 same in
+        let here : bytes_eq e.0.items name ≡ false = bytes_eq-flip e.0.items name ∙ ap (λ (n : List ℕ). bytes_eq n e.0.items) equal ∙ apart.0 in
+        let first = resubscribed_other e here in
+        let rest = others key es same apart.1 in
+        cc
+
+    written_step : (b : Bool) (e : Vec ℕ Y × Vec ℕ Z) (es : List (Vec ℕ Y × Vec ℕ Z)) (v w : Vec ℕ Z) → bytes_eq name e.0.items ≡ b → w.items ≡ change v.items
+        → cond b (Some e.1) (lookup (names name) es) ≡ Some v
+        → (b ≡ true → map (resubscribed name change) (channels_of es) ≡ channels_of es)
+        → (lookup (names name) es ≡ Some v → channels_of (set_value (names name) es w) ≡ map (resubscribed name change) (channels_of es))
+        → channels_of (cond b ((e.0, w) ∷ es) (e ∷ set_value (names name) es w)) ≡ resubscribed name change (channel_of e) ∷ map (resubscribed name change) (channels_of es)
+    written_step true e es v w here now found same rest =
+        let h : bytes_eq e.0.items name ≡ true = bytes_eq-flip e.0.items name ∙ here in
+        let tail = same refl in
+        let head : resubscribed name change (channel_of e) ≡ record { name = e.0.items; subscribers = change e.1.items } = ap (λ (b : Bool). record (channel_of e) { subscribers = if b then change e.1.items else e.1.items }) h in
+        let value : e.1 ≡ v = cc in
+        let items : w.items ≡ change e.1.items = now ∙ ap (λ (x : Vec ℕ Z). change x.items) (sym value) in
+        let first : channel_of (e.0, w) ≡ resubscribed name change (channel_of e) = ap (λ (s : List ℕ). record (channel_of e) { subscribers = s }) items ∙ sym head in
+        cc
+    written_step false e es v w here now found same rest =
+        let h : bytes_eq e.0.items name ≡ false = bytes_eq-flip e.0.items name ∙ here in
+        let first = resubscribed_other e h in
+        let tail = rest found in
+        cc
+
+    -- what is written to the subscribers of a channel
+    pub channels_of-set_value : (entries : List (Vec ℕ Y × Vec ℕ Z)) (v w : Vec ℕ Z) → IsDistinct (λ (x y : Vec ℕ Y). bytes_eq x.items y.items) (keys_of entries) → lookup (names name) entries ≡ Some v → w.items ≡ change v.items
+        → channels_of (set_value (names name) entries w) ≡ map (resubscribed name change) (channels_of entries)
+    channels_of-set_value [] v w distinct found now = refl
+    channels_of-set_value (e ∷ es) v w distinct found now =
+        written_step (bytes_eq name e.0.items) e es v w refl now found
+        (λ same. others e.0 es same (IsDistinct-head _ e.0 (keys_of es) distinct))
+        (λ deeper. channels_of-set_value es v w (IsDistinct-tail _ e.0 (keys_of es) distinct) deeper now)
+
+  -- a channel that a look-up finds
+  pub found_known : (entries : List (Vec ℕ Y × Vec ℕ Z)) (name : List ℕ) (v : Vec ℕ Z) → lookup (names name) entries ≡ Some v → (is_known (channels_of entries) name ≡ true) × (subscribers_of (channels_of entries) name ≡ v.items)
+  found_known entries name v h =
+      (sym (is_known-lookup entries name) ∙ ap is_some h, subscribers_of-lookup entries name ∙ ap (λ (r : Option (Vec ℕ Z)). option_map_or (λ (w : Vec ℕ Z). w.items) r []) h)
+
+  -- and one that it doesn't find
+  pub not_found_known : (entries : List (Vec ℕ Y × Vec ℕ Z)) (name : List ℕ) → lookup (names name) entries ≡ None → (is_known (channels_of entries) name ≡ false) × (subscribers_of (channels_of entries) name ≡ [])
+  not_found_known entries name h =
+      (sym (is_known-lookup entries name) ∙ ap is_some h, subscribers_of-lookup entries name ∙ ap (λ (r : Option (Vec ℕ Z)). option_map_or (λ (w : Vec ℕ Z). w.items) r []) h)
+
+  -- an unknown channel has no key
+  pub lookup-unknown : (entries : List (Vec ℕ Y × Vec ℕ Z)) (name : List ℕ) → is_known (channels_of entries) name ≡ false → lookup (names name) entries ≡ None
+  lookup-unknown entries name h = none_from_false (lookup (names name) entries) (is_known-lookup entries name ∙ h)
+
+  -- a new key is the last channel
+  pub channels_of-push : (entries : List (Vec ℕ Y × Vec ℕ Z)) (key : Vec ℕ Y) (v : Vec ℕ Z) → channels_of (entries ++ (key, v) ∷ []) ≡ channels_of entries ++ channel_of (key, v) ∷ []
+  channels_of-push entries key v = map-append channel_of entries ((key, v) ∷ [])
+
+  pub new_channel : (entries : List (Vec ℕ Y × Vec ℕ Z)) (key : Vec ℕ Y) (v : Vec ℕ Z) (name clients : List ℕ) → key.items ≡ name → v.items ≡ clients
+      → channels_of (entries ++ (key, v) ∷ []) ≡ channels_of entries ++ record { name = name; subscribers = clients } ∷ []
+  new_channel entries key v name clients n c =
+      channels_of-push entries key v ∙ ap (λ (x : List ℕ). channels_of entries ++ record { name = x; subscribers = v.items } ∷ []) n
+      ∙ ap (λ (x : List ℕ). channels_of entries ++ record { name = name; subscribers = x } ∷ []) c
+
+resubscribed_same : (name : List ℕ) (channels : List Channel) → map (resubscribed name (λ s. s)) channels ≡ channels
+resubscribed_same name [] = refl
+resubscribed_same name (c ∷ cs) =
+    let head : resubscribed name (λ s. s) c ≡ c = ap (λ (s : List ℕ). record c { subscribers = s }) (either_same (has_name name c) c.subscribers) in
+    let tail = resubscribed_same name cs in
+    cc
+  where
+    either_same : (b : Bool) (s : List ℕ) → (if b then s else s) ≡ s
+    either_same true s = refl
+    either_same false s = refl
+
+module _ {Y Z : Type 0} (entries new : List (Vec ℕ Y × Vec ℕ Z)) (name : List ℕ) (v w : Vec ℕ Z) (distinct : IsDistinct (λ (x y : Vec ℕ Y). bytes_eq x.items y.items) (keys_of entries)) (found : Some v ≡ lookup (names name) entries) (written : new ≡ set_value (names name) entries w) where
+  -- what is written through a look-up
+  pub written_channels : (change : List ℕ → List ℕ) → w.items ≡ change v.items → channels_of new ≡ map (resubscribed name change) (channels_of entries)
+  written_channels change now = ap channels_of written ∙ channels_of-set_value name change entries v w distinct (sym found) now
+
+  -- the same subscribers written back
+  pub written_same : w.items ≡ v.items → channels_of new ≡ channels_of entries
+  written_same now = written_channels (λ s. s) now ∙ resubscribed_same name (channels_of entries)
+
+module _ (channels : List Channel) (client : ℕ) (name : List ℕ) where
+  pub join_cause_known : (clients : List ℕ) → is_name name ≡ true → is_known channels name ≡ true → subscribers_of channels name ≡ clients → join_cause channels client name ≡ first_cause ((is_among client clients, cause.Joined) ∷ [])
+  join_cause_known clients named known there = rw (named, known, there) refl
+
+  pub join_cause_unknown : is_name name ≡ true → is_known channels name ≡ false → subscribers_of channels name ≡ [] → join_cause channels client name ≡ first_cause ((nat_le 64 (length channels), cause.TooManyChannels) ∷ [])
+  join_cause_unknown named known there = rw (named, known, there) refl
+
+  pub leave_cause_known : (clients : List ℕ) → subscribers_of channels name ≡ clients → leave_cause channels client name ≡ first_cause ((not (is_among client clients), cause.NotJoined) ∷ [])
+  leave_cause_known clients there = rw there refl
+
+  pub channels_joined_known : is_known channels name ≡ true → channels_joined channels client name ≡ map (resubscribed name (λ s. s ++ client ∷ [])) channels
+  channels_joined_known known = rw known refl
+
+  pub channels_joined_unknown : is_known channels name ≡ false → channels_joined channels client name ≡ channels ++ record { name = name; subscribers = client ∷ [] } ∷ []
+  channels_joined_unknown known = rw known refl
+
+equal_items : (xs ys : List ℕ) → AllZip (λ (x y : ℕ). y ≡ x) xs ys → ys ≡ xs
+equal_items [] [] h = refl
+equal_items [] (y ∷ ys) h = absurd h
+equal_items (x ∷ xs) [] h = absurd h
+equal_items (x ∷ xs) (y ∷ ys) h = let head = h.0 in let tail = equal_items xs ys h.1 in cc
+
+abbrev Cloned : {A : Type 0} → Vec ℕ A → Vec ℕ A → Type 0
+Cloned v w = AllZip (λ (x y : ℕ). y ≡ x) v.items w.items × (vec_len w ≡ vec_len v)
+
+module _ {Y Z : Type 0} where
+  -- clones show the same channels
+  pub channels_of-clones : (entries copies : List (Vec ℕ Y × Vec ℕ Z)) → AllZip (λ (p q : Vec ℕ Y × Vec ℕ Z). Cloned p.0 q.0 × Cloned p.1 q.1) entries copies → channels_of copies ≡ channels_of entries
+  channels_of-clones [] [] h = refl
+  channels_of-clones [] (q ∷ qs) h = absurd h
+  channels_of-clones (p ∷ ps) [] h = absurd h
+  channels_of-clones (p ∷ ps) (q ∷ qs) h =
+      let name : q.0.items ≡ p.0.items = equal_items p.0.items q.0.items h.0.0.0 in
+      let subscribers : q.1.items ≡ p.1.items = equal_items p.1.items q.1.items h.0.1.0 in
+      let rest = channels_of-clones ps qs h.1 in
+      ap (λ (n : List ℕ). record { name = n; subscribers = q.1.items } ∷ channels_of qs) name
+      ∙ ap (λ (s : List ℕ). record { name = p.0.items; subscribers = s } ∷ channels_of qs) subscribers
+      ∙ ap (λ (cs : List Channel). channel_of p ∷ cs) rest

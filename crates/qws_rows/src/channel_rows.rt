@@ -1,0 +1,98 @@
+//! Channels and mailboxes: joins, messages, what stops them, and a full mailbox.
+use qcop_channels::{Channels, QcopStop};
+use qws_base::Event;
+use std::test::Fail;
+
+// What a take gave, without names: the sender and the payload's length, or the slot.
+#[derive(Clone, Copy, Debug, PartialEq, Eq)]
+enum Taken {
+    Message { from: u32, len: usize },
+    Modified { slot: u32 },
+    Stopped { stop: QcopStop },
+}
+
+fn seen_in(answer: Result<Event, QcopStop>) -> Taken {
+    match answer {
+        Ok(Event::Message { from, payload, .. }) => Taken::Message {
+            from,
+            len: payload.as_slice().len(),
+        },
+        Ok(Event::RegionModified { slot }) => Taken::Modified { slot },
+        Err(stop) => Taken::Stopped { stop },
+    }
+}
+
+const EMPTY: Taken = Taken::Stopped {
+    stop: QcopStop::Empty,
+};
+
+#[test]
+fn stops_of_channels(rt: HostRuntime) -> Result<(), Fail> {
+    let mut channels = Channels::new(rt.alloc())?;
+    assert_eq!(rt; channels.join(0, b"c"), Ok(()));
+    assert_eq!(rt; channels.join(0, b"c"), Err(QcopStop::Joined));
+    assert_eq!(rt; channels.join(0, &[b'n'; 65]), Err(QcopStop::BadName));
+    assert_eq!(rt; channels.leave(0, b"d"), Err(QcopStop::NotJoined));
+    assert_eq!(rt; channels.send(0, b"d", b"m", b""), Err(QcopStop::NoChannel));
+    assert_eq!(rt; channels.send(0, b"c", b"m", &[0; 4097]), Err(QcopStop::TooLarge { len: 4097 }));
+    assert_eq!(rt; seen_in(channels.take(0)), EMPTY);
+    assert!(rt; channels.is_registered(b"c"));
+    assert!(rt; !channels.is_registered(b"d"));
+    Ok(())
+}
+
+#[test]
+fn joins_64_channels(rt: HostRuntime) -> Result<(), Fail> {
+    let mut channels = Channels::new(rt.alloc())?;
+    for number in 0..64u8 {
+        assert_eq!(rt; channels.join(0, &[number + 33]), Ok(()));
+    }
+    assert_eq!(rt; channels.join(0, b"~~"), Err(QcopStop::TooManyChannels));
+    assert_eq!(rt; channels.join(1, b"!"), Ok(()));
+    Ok(())
+}
+
+#[test]
+fn notes_a_region_once(rt: HostRuntime) -> Result<(), Fail> {
+    let mut channels = Channels::new(rt.alloc())?;
+    assert_eq!(rt; channels.note_region(0, 3), Ok(()));
+    assert_eq!(rt; channels.note_region(0, 3), Ok(()));
+    assert_eq!(rt; seen_in(channels.take(0)), Taken::Modified { slot: 3 });
+    assert_eq!(rt; seen_in(channels.take(0)), EMPTY);
+    assert_eq!(rt; channels.note_region(0, 4), Ok(()));
+    channels.forget_region(0, 4);
+    assert_eq!(rt; seen_in(channels.take(0)), EMPTY);
+    Ok(())
+}
+
+#[test]
+fn copies_channels(rt: HostRuntime) -> Result<(), Fail> {
+    let mut channels = Channels::new(rt.alloc())?;
+    assert_eq!(rt; channels.join(0, b"c"), Ok(()));
+    let mut copy = channels.copy(rt.alloc())?;
+    assert_eq!(rt; copy.join(0, b"c"), Err(QcopStop::Joined));
+    assert_eq!(rt; seen_in(copy.take(0)), EMPTY);
+    assert_eq!(rt; copy.send(1, b"c", b"m", b"p"), Ok(1));
+    assert_eq!(rt; seen_in(copy.take(0)), Taken::Message { from: 1, len: 1 });
+    assert_eq!(rt; seen_in(channels.take(0)), EMPTY);
+    Ok(())
+}
+
+#[test]
+fn fills_a_mailbox(rt: HostRuntime) -> Result<(), Fail> {
+    let mut channels = Channels::new(rt.alloc())?;
+    assert_eq!(rt; channels.join(1, b"c"), Ok(()));
+    for _ in 0..256u32 {
+        assert_eq!(rt; channels.send(0, b"c", b"m", b""), Ok(1));
+    }
+    assert_eq!(rt; channels.send(0, b"c", b"m", b""), Err(QcopStop::MailboxFull { client: 1 }));
+    assert_eq!(rt; channels.note_region(1, 0), Ok(()));
+    for _ in 0..256u32 {
+        assert_eq!(rt; seen_in(channels.take(1)), Taken::Message { from: 0, len: 0 });
+    }
+    assert_eq!(rt; seen_in(channels.take(1)), Taken::Modified { slot: 0 });
+    assert_eq!(rt; seen_in(channels.take(1)), EMPTY);
+    assert_eq!(rt; channels.leave(1, b"c"), Ok(()));
+    assert_eq!(rt; channels.send(0, b"c", b"m", b""), Ok(0));
+    Ok(())
+}
