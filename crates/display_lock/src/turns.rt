@@ -1,0 +1,159 @@
+//! Turns. A turn borrows its token, and has to be ended.
+ghost use Rattle.std.specs.Prelude.{◌≡◌, ◌+◌, ◌<◌, ◌≤◌, ◌^◌, false, length, map, IfOk, IfErr, MatchResult};
+ghost use Rattle.std.specs.Borrow.{sem, RestsIfErr};
+ghost use Rattle.fb_words.specs.declared.known.Mode.TheVariants.{Idle};
+ghost use Rattle.fb_words.specs.declared.known.ServerMode.TheVariants.{Resting, Closing, Writing};
+ghost use Rattle.fb_words.specs.Views.{total, is_client, is_writing};
+ghost use Rattle.fb_words.specs.Steps.{after_retreat, after_announce, after_give, with_step, AllHere};
+ghost use Rattle.fb_words.specs.contracts.tokens.Pass as pass_of;
+ghost use Rattle.fb_words.specs.contracts.tokens.Head as head_of;
+ghost use Rattle.display_lock.specs.Turns.{IsTurned, IsOpen, turned_away, let_in, IsShutOut, IsOpenServer, shut_out, opened, withdrawn};
+
+use fb_words::{Head, Pass, Screen};
+use qws_base::JournalEntry;
+
+/// The lock was taken: the gate word that was found.
+#[derive(Debug, Drop)]
+pub struct Busy {
+    pub found: u64,
+}
+
+/// An open turn of a painter.
+pub struct PaintTurn<'a> {
+    screen: &'a Screen,
+    pass: &'a mut Pass,
+}
+
+/// An open turn of the server.
+pub struct ServerTurn<'a> {
+    screen: &'a Screen,
+    head: &'a mut Head,
+}
+
+const CLOSED: u64 = 1 << 32;
+
+// Enters, or is turned away.
+fn get_in(screen: &Screen, pass: &mut Pass) -> Result<(), Busy>
+    requires screen { pass.old.screen ≡ screen.now }
+    requires idle { pass.old.client.mode ≡ Idle }
+    ensures pass { MatchResult result (λ _. pass.new ≡ let_in pass.old) (λ busy. pass.new ≡ turned_away pass.old busy.found) }
+    ensures found { IfErr result (λ busy. 2 ^ 32 ≤ busy.found) }
+{
+    let found = screen.enter(pass);
+    if found >= CLOSED {
+        screen.retreat(pass);
+        return Err(Busy { found });
+    }
+    Ok(())
+}
+
+/// A painter's turn. `Busy` comes exactly where this call's enter found 2^32 or more: the server has a turn open or has
+/// announced one. The enter is undone then, and the pass has the word that was found.
+pub fn try_paint_turn<'a>(pass: &'a mut Pass, screen: &'a Screen) -> Result<PaintTurn<'a>, Busy>
+    requires screen { pass.old.screen ≡ screen.now }
+    requires idle { pass.old.client.mode ≡ Idle }
+    ensures* refused { sem 𝓛 (RestsIfErr pass_of.the_row pass.entry (λ t. t.pass.ghost_name) result (IsTurned pass.old result)) }
+    ensures same_reference { IfOk result (λ turn. turn.pass.ghost_name ≡ pass.entry.ghost_name) }
+    ensures open { IfOk result (λ turn. (turn.screen.now ≡ screen.now) × (turn.pass.now ≡ let_in pass.old)) }
+    ensures found { IfErr result (λ busy. 2 ^ 32 ≤ busy.found) }
+{
+    get_in(screen, pass)?;
+    Ok(PaintTurn { screen, pass })
+}
+
+impl<'a> PaintTurn<'a> {
+    /// Ends the turn.
+    pub fn end(self)
+        requires { IsOpen self }
+        ensures { self.exit.1.0.now ≡ record self.entry.pass.now { client = after_retreat self.entry.pass.now.client } }
+    {
+        let PaintTurn { screen, pass } = self;
+        screen.leave(pass);
+    }
+
+    /// The client's number.
+    pub fn client(&self) -> u32
+        ensures { result ≡ self.now.pass.now.client.number }
+    {
+        self.pass.client()
+    }
+
+    /// The screen that it paints on.
+    pub fn screen(&self) -> &Screen
+        ensures { result.now ≡ self.now.screen.now }
+    {
+        self.screen
+    }
+}
+
+// Announces the server where that is not done yet.
+fn close(screen: &Screen, head: &mut Head)
+    requires screen { head.old.screen ≡ screen.now }
+    requires not_writing { is_writing head.old.server.mode ≡ false }
+    ensures { head.new ≡ record head.old { server = after_announce head.old.server } }
+{
+    if !head.is_closing() {
+        screen.announce(head);
+    }
+}
+
+// Announces and settles once.
+fn take_over(screen: &Screen, head: &mut Head) -> Result<(), Busy>
+    requires screen { head.old.screen ≡ screen.now }
+    requires not_writing { is_writing head.old.server.mode ≡ false }
+    ensures head { MatchResult result (λ _. head.new ≡ opened head.old) (λ busy. head.new ≡ shut_out head.old busy.found) }
+    ensures found { IfErr result (λ busy. busy.found ≡ 2 ^ 32 → ⊥) }
+    ensures free { IfErr result (λ busy. AllHere head.old.server head.old.sitting → ⊥) }
+{
+    close(screen, head);
+    match screen.settle(head) {
+        Ok(()) => Ok(()),
+        Err(found) => Err(Busy { found }),
+    }
+}
+
+/// The server's turn. It announces the server where that is not done yet, and settles once. `Busy` comes exactly where the
+/// settle found a word other than 2^32: painters are in, or were refused and aren't back yet. The gate stays closed then,
+/// and the head has the word that was found. It doesn't come where all admitted clients sit.
+pub fn try_server_turn<'a>(head: &'a mut Head, screen: &'a Screen) -> Result<ServerTurn<'a>, Busy>
+    requires screen { head.old.screen ≡ screen.now }
+    requires not_writing { is_writing head.old.server.mode ≡ false }
+    ensures* refused { sem 𝓛 (RestsIfErr head_of.the_row head.entry (λ t. t.head.ghost_name) result (IsShutOut head.old result)) }
+    ensures same_reference { IfOk result (λ turn. turn.head.ghost_name ≡ head.entry.ghost_name) }
+    ensures open { IfOk result (λ turn. (turn.screen.now ≡ screen.now) × (turn.head.now ≡ opened head.old)) }
+    ensures found { IfErr result (λ busy. busy.found ≡ 2 ^ 32 → ⊥) }
+    ensures free { IfErr result (λ busy. AllHere head.old.server head.old.sitting → ⊥) }
+{
+    take_over(screen, head)?;
+    Ok(ServerTurn { screen, head })
+}
+
+impl<'a> ServerTurn<'a> {
+    /// Ends the turn with its entry, which has the next number. Its client sits with the head.
+    pub fn end(self, entry: &JournalEntry)
+        requires open { IsOpenServer self }
+        requires next { entry.now.number ≡ length self.head.now.server.closed + 1 }
+        requires sits { 1 ≤ total (is_client entry.now.client) self.head.now.sitting }
+        ensures { self.exit.1.0.now ≡ record self.entry.head.now { server = after_give self.entry.head.now.server entry.now; sitting = map (with_step entry.now) self.entry.head.now.sitting } }
+    {
+        let ServerTurn { screen, head } = self;
+        screen.give(head, entry);
+    }
+
+    /// The screen that it serves.
+    pub fn screen(&self) -> &Screen
+        ensures { result.now ≡ self.now.screen.now }
+    {
+        self.screen
+    }
+}
+
+/// Opens the gate again where the server has announced itself; else it does nothing.
+pub fn withdraw(screen: &Screen, head: &mut Head)
+    requires screen { head.old.screen ≡ screen.now }
+    ensures { head.new ≡ withdrawn head.old }
+{
+    if head.is_closing() {
+        screen.withdraw(head);
+    }
+}

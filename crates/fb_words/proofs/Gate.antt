@@ -1,0 +1,137 @@
+-- A step of a client that changes no word but the gate keeps the words and the world in step.
+use Rattle.std.proofs.Common.{◌≡◌, ℕ, ◌+◌, ◌-◌, ◌%◌, ◌^◌, ◌<◌, ◌≤◌, zero-le, nat_lt, if◌then◌else◌, Bool, true, false, List, [], ◌∷◌, ◌++◌, length, get_or, set, length-set, sym, refl, ap, ◌∙◌, subst, arith, None}
+use Rattle.std.proofs.lemmas.List.{get_or-set_other, get_or-set_same}
+use Rattle.std.proofs.lemmas.Bool.{false≢true}
+use Rattle.std.proofs.lemmas.Bool.Decides.{nat_tests}
+use mathlib.Core.Option.{some, none}
+use lib.ListN.{get_elem?}
+use Rattle.atomic_table.specs.Table.{Me, step, Allows}
+use Rattle.qws_base.specs.Scenes.{Setting}
+use Rattle.fb_words.specs.declared.known.Mode.{Mode}
+use Rattle.fb_words.specs.declared.known.Mode.TheVariants.{Idle, Refused, Reading}
+use Rattle.fb_words.specs.declared.known.ServerMode.{ServerMode}
+use Rattle.fb_words.specs.declared.known.ServerMode.TheVariants.{Resting, Closing, Writing}
+use Rattle.fb_words.specs.declared.known.Client.{Client}
+use Rattle.fb_words.specs.declared.known.View.{View}
+use Rattle.fb_words.specs.Views.{total, busy, reading, busy_mode, reading_mode, shut, is_writing, steps_in, alone, only}
+use Rattle.fb_words.specs.Rule.{World, SeatOk, OrderOk, steps_of, Fits, Holds}
+use Rattle.fb_words.specs.Steps.{after_enter, entered, after_retreat, retreated}
+use Rattle.fb_words.proofs.Places.{each_set}
+use Rattle.fb_words.proofs.Totals.{total_set, total_one}
+use Rattle.fb_words.proofs.Spreads.{with_client, client_steps}
+
+-- the words but the gate are the same
+pub record SameWords (words ws : List ℕ) : Type 0 where
+  pub long : length ws ≡ length words
+  pub same : (i : ℕ) → 1 ≤ i → get_or ws i 0 ≡ get_or words i 0
+
+pub gate_set : (words : List ℕ) (n : ℕ) → SameWords words (set words 0 n)
+gate_set words n = record { long = length-set words 0 n; same = λ i some. get_or-set_other words 0 i n 0 (λ eq. absurd (omega arith)) }
+
+pub gate_now : (key : Setting) (words : List ℕ) (w : World) (n : ℕ) → Fits key words w → get_or (set words 0 n) 0 0 ≡ n
+gate_now key words w n f = let long = f.setting.long in get_or-set_same words 0 n 0 (omega arith)
+
+-- what the step leaves of a client part: its calls in their order, and its steps
+pub record StillOwn (closed : ℕ) (p q : Client) : Type 0 where
+  pub order : OrderOk closed q
+  pub steps : steps_in q.own ≡ steps_in p.own
+
+pub still : (closed : ℕ) (p q : Client) → q.own ≡ p.own → q.seen ≡ p.seen → OrderOk closed p → StillOwn closed p q
+still closed p q own seen ok = record {
+  order = record {
+    rises = λ j k a b lt e d. ok.rises j k a b lt (subst (λ l. get_elem? l j ≡ some a) own e) (subst (λ l. get_elem? l k ≡ some b) own d);
+    seen_own = λ k a e. rw seen (ok.seen_own k a (subst (λ l. get_elem? l k ≡ some a) own e));
+    seen_within = rw seen ok.seen_within;
+  };
+  steps = ap steps_in own;
+}
+
+-- one client part changes, and the gate with it
+pub fits_client : (key : Setting) (words ws : List ℕ) (w : World) (p q : Client) → Fits key words w → get_elem? w.clients p.number ≡ some p → SameWords words ws
+    → (q.number ≡ p.number) × (q.setting ≡ p.setting) × (q.step_limit ≡ p.step_limit)
+    → get_or ws 0 0 + busy p ≡ get_or words 0 0 + busy q → (is_writing w.server.mode ≡ true → reading q ≤ reading p) → StillOwn (length w.server.closed) p q → Fits key ws (with_client w q)
+fits_client key words ws w p q f at same parts gate apart own = let s = w.server in let cs = w.clients in
+    let P : ℕ → Type 0 = λ n. Fits key ws record w { clients = set cs n q } in subst P (sym parts.0) record {
+      setting = record { long = same.long ∙ f.setting.long; screen = f.setting.screen; colour = f.setting.colour; server = f.setting.server };
+      gate = let sum = total_set busy cs p.number p q at in let is = f.gate in omega arith;
+      apart = λ writing. let none = f.apart writing in let less = apart writing in let sum = total_set reading cs p.number p q at in omega arith;
+      as_many = f.as_many ∙ sym (length-set cs p.number q);
+      few = rw (length-set cs p.number q) f.few;
+      seats = each_set (SeatOk key s) cs p.number q (λ c r _ e. f.seats c r e)
+          (let ok = f.seats p.number p at in record { setting_is = parts.1 ∙ ok.setting_is; number_is = parts.0 ∙ ok.number_is; limit_is = ok.limit_is ∙ ap some (sym parts.2) });
+      order = each_set (λ c r. OrderOk (length s.closed) r) cs p.number q (λ c r _ e. f.order c r e) own.order;
+      own_steps = each_set (λ c r. steps_in r.own ≡ steps_of c 0 s.closed) cs p.number q (λ c r _ e. f.own_steps c r e) (own.steps ∙ f.own_steps p.number p at);
+      named = f.named;
+    }
+
+few_busy : (l : List Client) → total busy l ≤ length l
+few_busy [] = omega arith
+few_busy (p ∷ ps) = let r = few_busy ps in let one = busy_one p.mode in omega arith
+  where
+    busy_one : (m : Mode) → busy_mode m ≤ 1
+    busy_one Idle = omega arith
+    busy_one Refused = omega arith
+    busy_one (Reading stamp slot looked log) = omega arith
+
+-- there are so few clients that the gate does not wrap
+pub gate_small : (key : Setting) (words : List ℕ) (w : World) → Fits key words w → get_or words 0 0 ≤ shut w.server.mode + 16
+gate_small key words w f = let is = f.gate in let few = few_busy w.clients in let most = f.few in omega arith
+
+pub shut_most : (m : ServerMode) → shut m ≤ 4294967296
+shut_most Resting = omega arith
+shut_most Closing = omega arith
+shut_most Writing = omega arith
+
+low_is_open : (m : ServerMode) (n k : ℕ) → n ≡ shut m + k → n < 4294967296 → is_writing m ≡ true → ⊥
+low_is_open Resting n k e low is = false≢true is
+low_is_open Closing n k e low is = false≢true is
+low_is_open Writing n k e low is = omega arith
+
+-- enter
+module _ (key : Setting) (words : List ℕ) (w : World) (p : Client) (f : Fits key words w) (at : get_elem? w.clients p.number ≡ some p) (idle : p.mode ≡ Idle) where
+  abbrev n : ℕ
+  n = get_or words 0 0
+
+  enters_as : (m : Mode) (t : List ℕ) → busy_mode m ≡ 1 → (is_writing w.server.mode ≡ true → reading_mode m ≡ 0) → Fits key (set words 0 (n + 1)) (with_client w record p { mode = m; turned = t })
+  enters_as m t one apart = let q : Client = record p { mode = m; turned = t } in
+      fits_client key words (set words 0 (n + 1)) w p q f at (gate_set words (n + 1)) (refl, refl, refl)
+      (let z : busy_mode p.mode ≡ 0 = ap busy_mode idle in let now = gate_now key words w (n + 1) f in omega arith) (λ writing. let z = apart writing in omega arith)
+      (still (length w.server.closed) p q refl refl (f.order p.number p at))
+
+  enters_fit : (b : Bool) → nat_lt n 4294967296 ≡ b → Fits key (set words 0 (n + 1)) (with_client w record p { mode = (if b then Reading None None [] [] else Refused); turned = (if b then p.turned else p.turned ++ n ∷ []) })
+  enters_fit true low = enters_as (Reading None None [] []) p.turned refl (λ writing. absurd (low_is_open w.server.mode n (total busy w.clients) f.gate (grind (arith, nat_tests)) writing))
+  enters_fit false low = enters_as Refused (p.turned ++ n ∷ []) refl (λ writing. refl)
+
+abbrev Mine : Type 0
+Mine = Me (Unit {0}) View
+
+abbrev pub part_of : Mine → Client
+part_of me = only me.0.clients
+
+abbrev pub IsAlone : Mine → Type 0
+IsAlone me = me ≡ (alone (part_of me), [])
+
+pub enters : (key : Setting) (slots id : ℕ) (me : Mine) → IsAlone me → (part_of me).mode ≡ Idle → Allows (Holds key) slots id me 0 (λ n. (n + 1) % 2 ^ 64) (entered (step slots 0 1 0 none) me)
+enters key slots id me is idle = let P : Mine → Type 0 = λ m. Allows (Holds key) slots id m 0 (λ n. (n + 1) % 2 ^ 64) (entered (step slots 0 1 0 none) m) in let p = part_of me in
+    subst P (sym is) (client_steps key slots id p 0 (λ n. (n + 1) % 2 ^ 64) (entered (step slots 0 1 0 none) (alone p, []))
+    (λ words w f at _. let n : ℕ = get_or words 0 0 in let small = gate_small key words w f in let most = shut_most w.server.mode in let more : (n + 1) % 2 ^ 64 ≡ n + 1 = omega arith in
+    (after_enter p n, refl, rw more (enters_fit key words w p f at idle (nat_lt n 4294967296) refl), refl)))
+
+-- retreat
+pub retreats : (key : Setting) (slots id : ℕ) (me : Mine) → IsAlone me → busy_mode (part_of me).mode ≡ 1 → Allows (Holds key) slots id me 0 (λ n. (n + (2 ^ 64 - 1)) % 2 ^ 64) (retreated (step slots 0 1 0 none) me)
+retreats key slots id me is is_busy = let P : Mine → Type 0 = λ m. Allows (Holds key) slots id m 0 (λ n. (n + (2 ^ 64 - 1)) % 2 ^ 64) (retreated (step slots 0 1 0 none) m) in let p = part_of me in
+    subst P (sym is) (client_steps key slots id p 0 (λ n. (n + (2 ^ 64 - 1)) % 2 ^ 64) (retreated (step slots 0 1 0 none) (alone p, []))
+    (λ words w f at small. let n : ℕ = get_or words 0 0 in let fits : n < 18446744073709551616 = small in let g = f.gate in let one = total_one busy w.clients p.number p at in
+    let less : (n + 18446744073709551615) % 18446744073709551616 ≡ n - 1 = omega arith in (
+      after_retreat p,
+      refl,
+      rw less (fits_client key words (set words 0 (n - 1)) w p (after_retreat p) f at (gate_set words (n - 1)) (refl, refl, refl)
+          (let now = gate_now key words w (n - 1) f in omega arith) (λ _. zero-le)
+          (still (length w.server.closed) p (after_retreat p) refl refl (f.order p.number p at))),
+      refl,
+    )))
+
+pub reads_busy : (m : Mode) → reading_mode m ≡ 1 → busy_mode m ≡ 1
+reads_busy Idle e = absurd (omega arith)
+reads_busy Refused e = absurd (omega arith)
+reads_busy (Reading stamp slot looked log) e = refl

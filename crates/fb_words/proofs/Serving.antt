@@ -1,0 +1,324 @@
+-- A step of the head on the gate keeps the words and the world in step.
+use Rattle.std.proofs.Common.{◌≡◌, ℕ, zero, suc, ◌+◌, ◌-◌, ◌*◌, ◌%◌, ◌^◌, ◌<◌, ◌≤◌, ◌==◌, eq-eqb, ne_eqb, if◌then◌else◌, Bool, true, false, List, [], ◌∷◌, ◌++◌, ◌≢◌, map, length, get_or, set, length-append, append-nil, bit_or, sym, refl, ap, ◌∙◌, subst, arith}
+use Rattle.std.specs.Int.{bit_at}
+use Rattle.std.proofs.lemmas.Nat.{or_disjoint}
+use Rattle.std.proofs.lemmas.Nat.Bits.{and_pow}
+use Rattle.std.proofs.lemmas.List.{length-map}
+use Rattle.std.proofs.lemmas.Bool.{false≢true}
+use Rattle.std.proofs.lemmas.Bool.Decides.{nat_tests}
+use mathlib.Core.Option.{some, none, some-injective}
+use mathlib.Core.Logic.{dite}
+use native.Mathlib.Decide.{ℕ_discrete}
+use lib.ListN.{get_elem?}
+use Rattle.atomic_table.specs.Table.{step, keeps, Me, Allows}
+use Rattle.atomic_table.proofs.Lists.{at_map}
+use Rattle.qws_base.specs.Scenes.{Setting}
+use Rattle.qws_base.specs.declared.journals.JournalEntry.{JournalEntry}
+use Rattle.fb_words.specs.declared.known.Mode.{Mode}
+use Rattle.fb_words.specs.declared.known.Mode.TheVariants.{Idle, Refused, Reading}
+use Rattle.fb_words.specs.declared.known.ServerMode.{ServerMode}
+use Rattle.fb_words.specs.declared.known.ServerMode.TheVariants.{Resting, Closing, Writing}
+use Rattle.fb_words.specs.declared.known.Call.{Call}
+use Rattle.fb_words.specs.declared.known.Call.TheVariants.{Step, Paint}
+use Rattle.fb_words.specs.declared.known.Client.{Client}
+use Rattle.fb_words.specs.declared.known.Closed.{Closed}
+use Rattle.fb_words.specs.declared.known.Server.{Server}
+use Rattle.fb_words.specs.declared.known.View.{View}
+use Rattle.fb_words.specs.Views.{total, is_client, busy, reading, busy_mode, reading_mode, shut, is_writing, is_closing, steps_in, books_in, head_view, the_server, both_views, client_of, without}
+use Rattle.fb_words.specs.Rule.{World, clients_in, Spread, SeatOk, OrderOk, MayFollow, mark, step_call, steps_of, Fits, Holds}
+use Rattle.fb_words.specs.Steps.{after_announce, announced, after_settle, settled, after_withdraw, withdrew, after_give, closed_turn, own_step, stepped, with_step, given, told, AllSit, AllHere}
+use Rattle.fb_words.proofs.Places.{each_of}
+use Rattle.fb_words.proofs.Totals.{total_append, total_one, total_map, from_map, set_same}
+use Rattle.fb_words.proofs.Spreads.{SitIn, server_steps, Moves, spread_set, place_within}
+use Rattle.fb_words.proofs.Sitting.{client_of_here}
+use Rattle.fb_words.proofs.Gate.{gate_set, gate_now, gate_small}
+
+-- what the rule says of the clients that sit with the head
+sits_well : (key : Setting) (words : List ℕ) (s : Server) (cs ps : List Client) → Fits key words record { server = s; clients = cs } → SitIn cs ps → AllSit s ps
+sits_well key words s cs ps f sit k p e = let at = sit k p e in let ok = f.seats p.number p at in record {
+  setting = ok.setting_is ∙ sym f.setting.server;
+  limit = ok.limit_is;
+  seen = (f.order p.number p at).seen_within;
+  own_steps = f.own_steps p.number p at;
+}
+
+-- where no item counts, the total is 0
+total_none : {A : Type 0} (f : A → ℕ) (l : List A) → ((k : ℕ) (a : A) → get_elem? l k ≡ some a → f a ≡ 0) → total f l ≡ 0
+total_none f [] each = refl
+total_none f (x ∷ xs) each = let r = total_none f xs (λ k a e. each (suc k) a e) in let h = each zero x refl in omega arith
+
+all_idle : (s : Server) (cs ps : List Client) → length s.limits ≡ length cs → SitIn cs ps → AllHere s ps → total busy ps ≡ 0 → total busy cs ≡ 0
+all_idle s cs ps long sit here idle = total_none busy cs (λ c q e.
+    let h = here c (rw long (place_within cs c q e)) in
+    let mine : get_elem? cs c ≡ some h.1 = subst (λ n. get_elem? cs n ≡ some h.1) h.3 (sit h.0 h.1 h.2) in
+    let same : h.1 ≡ q = some-injective h.1 q (sym mine ∙ e) in
+    let one = total_one busy ps h.0 h.1 h.2 in let z : busy_mode h.1.mode ≡ 0 = omega arith in ap busy (sym same) ∙ z)
+
+no_reader : (l : List Client) → total busy l ≡ 0 → total reading l ≡ 0
+no_reader [] e = refl
+no_reader (p ∷ ps) e = let r = no_reader ps (omega arith) in let one = less p.mode in omega arith
+  where
+    less : (m : Mode) → reading_mode m ≤ busy_mode m
+    less Idle = omega arith
+    less Refused = omega arith
+    less (Reading stamp slot looked log) = omega arith
+
+-- the gate changes with the server's mode
+fits_mode : (key : Setting) (words : List ℕ) (s : Server) (cs : List Client) (m : ServerMode) (t : List ℕ) (n : ℕ) → Fits key words record { server = s; clients = cs }
+    → n + shut s.mode ≡ get_or words 0 0 + shut m → (is_writing m ≡ true → total reading cs ≡ 0) → Fits key (set words 0 n) record { server = record s { mode = m; turned = t }; clients = cs }
+fits_mode key words s cs m t n f gate apart = let same = gate_set words n in record {
+  setting = record { long = same.long ∙ f.setting.long; screen = f.setting.screen; colour = f.setting.colour; server = f.setting.server };
+  gate = let is = f.gate in gate_now key words record { server = s; clients = cs } n f ∙ (omega arith);
+  apart = apart;
+  as_many = f.as_many;
+  few = f.few;
+  seats = λ c p e. let ok = f.seats c p e in record { setting_is = ok.setting_is; number_is = ok.number_is; limit_is = ok.limit_is };
+  order = f.order;
+  own_steps = f.own_steps;
+  named = f.named;
+}
+
+-- ---- announce
+
+no_bit : (n : ℕ) → n < 2 ^ 32 → bit_at n 32 ≡ 0
+no_bit n small = omega arith
+
+sets_bit : (n : ℕ) → n < 2 ^ 32 → bit_or n 4294967296 ≡ n + 4294967296
+sets_bit n small = or_disjoint n (2 ^ 32) (and_pow n 32 ∙ ap (λ b. b * 2 ^ 32) (no_bit n small))
+
+abbrev not_written : (m : ServerMode) → m ≡ Resting → shut m ≡ 0
+not_written m e = ap shut e
+
+announces : (key : Setting) (slots id : ℕ) (s : Server) (ps : List Client) → s.mode ≡ Resting
+    → Allows (Holds key) slots id (head_view s ps, []) 0 (λ n. bit_or n 4294967296) (announced (step slots 0 4294967296 0 none) (head_view s ps, []))
+announces key slots id s ps resting = server_steps key slots id s ps 0 (λ n. bit_or n 4294967296) (announced (step slots 0 4294967296 0 none) (head_view s ps, []))
+    (λ words cs f sit _ _. let n : ℕ = get_or words 0 0 in let open_gate : shut s.mode ≡ 0 = ap shut resting in
+    let small = gate_small key words record { server = s; clients = cs } f in let low : n < 4294967296 = omega arith in (
+      after_announce s,
+      rw (sets_bit n low) (fits_mode key words s cs Closing s.turned (n + 4294967296) f (omega arith) (λ e. absurd (false≢true e))),
+      (refl, low),
+    ))
+
+-- ---- settle
+
+same_gate : (key : Setting) (words : List ℕ) (s t : Server) (cs : List Client) → Fits key (set words 0 (get_or words 0 0)) record { server = t; clients = cs } → Fits key words record { server = t; clients = cs }
+same_gate key words s t cs f = subst (λ x. Fits key x record { server = t; clients = cs }) (set_same words 0) f
+
+settles : (key : Setting) (slots id : ℕ) (s : Server) (ps : List Client) → s.mode ≡ Closing → total busy ps ≡ 0
+    → Allows (Holds key) slots id (head_view s ps, []) 0 (λ n. n) (settled (step slots 0 0 0 none) (head_view s ps, []))
+settles key slots id s ps closing idle = server_steps key slots id s ps 0 (λ n. n) (settled (step slots 0 0 0 none) (head_view s ps, []))
+    (λ words cs f sit _ _. let n : ℕ = get_or words 0 0 in let is = f.gate in let door : shut s.mode ≡ 4294967296 = ap shut closing in (
+      after_settle s n,
+      go words cs f n refl (n == 4294967296) refl,
+      (refl, λ here. let none_busy = all_idle s cs ps f.as_many sit here idle in omega arith),
+    ))
+  where
+    go : (words : List ℕ) (cs : List Client) (f : Fits key words record { server = s; clients = cs }) (n : ℕ) → n ≡ get_or words 0 0 → (b : Bool) → (n == 4294967296) ≡ b
+        → Fits key (set words 0 n) record { server = record s { mode = (if b then Writing else Closing); turned = (if b then s.turned else s.turned ++ n ∷ []) }; clients = cs }
+    go words cs f n is true hit = let door : shut s.mode ≡ 4294967296 = ap shut closing in let found : n ≡ 4294967296 = grind (arith, nat_tests) in let g = f.gate in
+        fits_mode key words s cs Writing s.turned n f (omega arith) (λ _. no_reader cs (omega arith))
+    go words cs f n is false miss = let door : shut s.mode ≡ 4294967296 = ap shut closing in
+        fits_mode key words s cs Closing (s.turned ++ n ∷ []) n f (omega arith) (λ e. absurd (false≢true e))
+
+-- ---- withdraw
+
+withdraws : (key : Setting) (slots id : ℕ) (s : Server) (ps : List Client) → s.mode ≡ Closing
+    → Allows (Holds key) slots id (head_view s ps, []) 0 (λ n. (n + (2 ^ 64 - 4294967296)) % 2 ^ 64) (withdrew (step slots 0 4294967296 0 none) (head_view s ps, []))
+withdraws key slots id s ps closing = server_steps key slots id s ps 0 (λ n. (n + (2 ^ 64 - 4294967296)) % 2 ^ 64) (withdrew (step slots 0 4294967296 0 none) (head_view s ps, []))
+    (λ words cs f sit _ small. let n : ℕ = get_or words 0 0 in let fits : n < 18446744073709551616 = small in let g = f.gate in let door : shut s.mode ≡ 4294967296 = ap shut closing in
+    let less : (n + (2 ^ 64 - 4294967296)) % 2 ^ 64 ≡ n - 4294967296 = omega arith in (
+      after_withdraw s,
+      rw less (fits_mode key words s cs Resting s.turned (n - 4294967296) f (omega arith) (λ e. absurd (false≢true e))),
+      refl,
+    ))
+
+-- ---- a load that tells
+
+tells : (key : Setting) (slots id : ℕ) (s : Server) (ps : List Client) → Allows (Holds key) slots id (head_view s ps, []) 0 (λ n. n) (told (step slots 0 0 0 none) (head_view s ps, []))
+tells key slots id s ps = server_steps key slots id s ps 0 (λ n. n) (told (step slots 0 0 0 none) (head_view s ps, []))
+    (λ words cs f sit _ _. (s, subst (λ x. Fits key x record { server = s; clients = cs }) (sym (set_same words 0)) f, (refl, sits_well key words s cs ps f sit)))
+
+-- ---- give
+
+pub steps_of_more : (c n : ℕ) (ts : List Closed) (t : Closed) → steps_of c n (ts ++ t ∷ []) ≡ steps_of c n ts ++ steps_of c (n + length ts) (t ∷ [])
+steps_of_more c n [] t = rw (let z : n + 0 ≡ n = omega arith in z) refl
+steps_of_more c n (u ∷ ts) t = let r = steps_of_more c (n + 1) ts t in
+    let same : n + 1 + length ts ≡ n + length (u ∷ ts) = omega arith in go (u.client == c) (r ∙ ap (λ k. steps_of c (n + 1) ts ++ steps_of c k (t ∷ [])) same)
+  where
+    go : (b : Bool) → steps_of c (n + 1) (ts ++ t ∷ []) ≡ steps_of c (n + 1) ts ++ steps_of c (n + length (u ∷ ts)) (t ∷ [])
+        → (if b then step_call (n + 1) u ∷ steps_of c (n + 1) (ts ++ t ∷ []) else steps_of c (n + 1) (ts ++ t ∷ []))
+        ≡ (if b then step_call (n + 1) u ∷ steps_of c (n + 1) ts else steps_of c (n + 1) ts) ++ steps_of c (n + length (u ∷ ts)) (t ∷ [])
+    go true e = ap (λ l. step_call (n + 1) u ∷ l) e
+    go false e = e
+
+-- a client's part after a give: by whether it is the entry's
+pub by_number : (e : JournalEntry) (p : Client) (P : Client → Type 0) → (p.number ≡ e.client → P (stepped e p)) → (p.number ≢ e.client → P p) → P (with_step e p)
+by_number e p P same other = dite (ℕ_discrete p.number e.client)
+    (λ is. subst (λ b. P (if b then stepped e p else p)) (sym (eq-eqb p.number e.client is)) (same is))
+    (λ not. subst (λ b. P (if b then stepped e p else p)) (sym (ne_eqb p.number e.client not)) (other not))
+
+pub same_number : (e : JournalEntry) (p : Client) → (with_step e p).number ≡ p.number
+same_number e p = by_number e p (λ q. q.number ≡ p.number) (λ _. refl) (λ _. refl)
+
+pub same_mode : (e : JournalEntry) (p : Client) → (with_step e p).mode ≡ p.mode
+same_mode e p = by_number e p (λ q. q.mode ≡ p.mode) (λ _. refl) (λ _. refl)
+
+pub steps_more : (l : List Call) (a : Call) → steps_in (l ++ a ∷ []) ≡ steps_in l ++ steps_in (a ∷ [])
+steps_more [] a = refl
+steps_more (Step s ∷ l) a = ap (λ t. s ∷ t) (steps_more l a)
+steps_more (Paint p ∷ l) a = steps_more l a
+
+pub books_more : (l : List Call) (a : Call) → books_in (l ++ a ∷ []) ≡ books_in l ++ books_in (a ∷ [])
+books_more [] a = refl
+books_more (Step s ∷ l) a = books_more l a
+books_more (Paint p ∷ l) a = ap (λ t. Rattle.fb_words.specs.Views.book_entry p ∷ t) (books_more l a)
+
+-- a call that has seen more than all before it
+pub order_more : (closed to : ℕ) (p q : Client) (a : Call) → OrderOk closed p → q.own ≡ p.own ++ a ∷ [] → q.seen ≡ mark a → p.seen ≤ q.seen → ((b : Call) → mark b ≤ p.seen → MayFollow b a) → q.seen ≤ to → OrderOk to q
+order_more closed to p q a ok own seen later follows within = record {
+  rises = λ j k b c lt e d. each_of (λ k c. (j : ℕ) (b : Call) → j < k → get_elem? (p.own ++ a ∷ []) j ≡ some b → MayFollow b c) p.own a
+      (λ k c d j b lt e. each_of (λ j b. j < k → MayFollow b c) p.own a (λ j b e lt. ok.rises j k b c lt e d) (λ lt. let w = place_within p.own k c d in absurd (omega arith)) j b e lt)
+      (λ j b lt e. each_of (λ j b. j < length p.own → MayFollow b a) p.own a (λ j b e lt. follows b (ok.seen_own j b e)) (λ lt. absurd (omega arith)) j b e lt)
+      k c (subst (λ l. get_elem? l k ≡ some c) own d) j b lt (subst (λ l. get_elem? l j ≡ some b) own e);
+  seen_own = λ k b e. each_of (λ k b. mark b ≤ q.seen) p.own a (λ k b e. let o = ok.seen_own k b e in omega arith) (omega arith) k b (subst (λ l. get_elem? l k ≡ some b) own e);
+  seen_within = within;
+}
+
+given_order : (s : Server) (e : JournalEntry) (p : Client) → e.number ≡ length s.closed + 1 → OrderOk (length s.closed) p → OrderOk (length (after_give s e).closed) (with_step e p)
+given_order s e p next ok = let long = length-append s.closed (closed_turn s e ∷ []) in let within = ok.seen_within in by_number e p (OrderOk (length (after_give s e).closed))
+    (λ is. order_more (length s.closed) (length (after_give s e).closed) p (stepped e p) (Step (own_step e)) ok refl refl (omega arith) (λ b le. omega arith) (omega arith))
+    (λ not. record { rises = ok.rises; seen_own = ok.seen_own; seen_within = omega arith })
+
+given_steps : (s : Server) (e : JournalEntry) (c : ℕ) (p : Client) → e.number ≡ length s.closed + 1 → p.number ≡ c → steps_in p.own ≡ steps_of c 0 s.closed → steps_in (with_step e p).own ≡ steps_of c 0 (after_give s e).closed
+given_steps s e c p next number ok = let t = closed_turn s e in by_number e p (λ q. steps_in q.own ≡ steps_of c 0 (s.closed ++ t ∷ []))
+    (λ is. let is_c : e.client ≡ c = sym is ∙ number in
+    steps_more p.own (Step (own_step e)) ∙ ap (λ l. l ++ own_step e ∷ []) ok
+    ∙ ap (λ l. steps_of c 0 s.closed ++ l) (ap (λ n. step_call n t ∷ []) (let z : e.number ≡ 0 + length s.closed + 1 = omega arith in z) ∙ ap (λ b. if b then step_call (0 + length s.closed + 1) t ∷ [] else []) (sym (eq-eqb e.client c is_c)))
+    ∙ sym (steps_of_more c 0 s.closed t))
+    (λ not. let not_c : e.client ≢ c = (λ eq. not (number ∙ sym eq)) in
+    ok ∙ sym (append-nil (steps_of c 0 s.closed)) ∙ ap (λ b. steps_of c 0 s.closed ++ (if b then step_call (0 + length s.closed + 1) t ∷ [] else [])) (sym (ne_eqb e.client c not_c)) ∙ sym (steps_of_more c 0 s.closed t))
+
+fits_give : (key : Setting) (words : List ℕ) (s : Server) (cs : List Client) (e : JournalEntry) (n : ℕ) → Fits key words record { server = s; clients = cs } → s.mode ≡ Writing → e.number ≡ length s.closed + 1
+    → n + 4294967296 ≡ get_or words 0 0 → e.client < length s.limits → Fits key (set words 0 n) record { server = after_give s e; clients = map (with_step e) cs }
+fits_give key words s cs e n f writing next gate inside = let same = gate_set words n in record {
+  setting = record { long = same.long ∙ f.setting.long; screen = f.setting.screen; colour = f.setting.colour; server = f.setting.server };
+  gate = let is = f.gate in let door : shut s.mode ≡ 4294967296 = ap shut writing in
+      let sum = total_map busy busy (with_step e) cs (λ p. ap busy_mode (same_mode e p)) in gate_now key words record { server = s; clients = cs } n f ∙ (omega arith);
+  apart = λ never. absurd (false≢true never);
+  as_many = f.as_many ∙ sym (length-map cs (with_step e));
+  few = rw (length-map cs (with_step e)) f.few;
+  seats = λ c q at. let r = from_map (with_step e) cs c q at in let ok = f.seats c r.0 r.1 in subst (SeatOk key (after_give s e) c) r.2
+      (by_number e r.0 (SeatOk key (after_give s e) c) (λ _. record { setting_is = ok.setting_is; number_is = ok.number_is; limit_is = ok.limit_is }) (λ _. record { setting_is = ok.setting_is; number_is = ok.number_is; limit_is = ok.limit_is }));
+  order = λ c q at. let r = from_map (with_step e) cs c q at in subst (OrderOk (length (after_give s e).closed)) r.2 (given_order s e r.0 next (f.order c r.0 r.1));
+  own_steps = λ c q at. let r = from_map (with_step e) cs c q at in subst (λ x. steps_in x.own ≡ steps_of c 0 (after_give s e).closed) r.2 (given_steps s e c r.0 next (f.seats c r.0 r.1).number_is (f.own_steps c r.0 r.1));
+  named = each_of (λ k t. t.client < length s.limits) s.closed (closed_turn s e) f.named inside;
+}
+
+gives_moves : (s : Server) (ps cs : List Client) (e : JournalEntry) → SitIn cs ps → 1 ≤ clients_in e.client (head_view s ps)
+    → Moves (head_view s ps) (head_view (after_give s e) (map (with_step e) ps)) record { server = s; clients = cs } record { server = after_give s e; clients = map (with_step e) cs }
+gives_moves s ps cs e sit here = record {
+  as_many_servers = refl;
+  as_many_clients = λ c. total_map (is_client c) (is_client c) (with_step e) ps (λ p. ap (λ n. if n == c then 1 else 0) (same_number e p));
+  as_long = length-map cs (with_step e);
+  server_is = refl;
+  server_same = λ none. absurd (omega arith);
+  client_is = λ k q at. let r = from_map (with_step e) ps k q at in
+      subst (λ x. get_elem? (map (with_step e) cs) x.number ≡ some x) r.2
+      (rw (same_number e r.0) (at_map (with_step e) cs r.0.number r.0 (sit k r.0 r.1)));
+  client_same = λ p none at. let not : p.number ≢ e.client = (λ eq. let z : clients_in e.client (head_view s ps) ≡ 0 = ap (λ n. clients_in n (head_view s ps)) (sym eq) ∙ none in absurd (omega arith)) in
+      at_map (with_step e) cs p.number p at ∙ ap some (by_number e p (λ q. q ≡ p) (λ eq. absurd (not eq)) (λ _. refl));
+}
+
+gives : (key : Setting) (slots id : ℕ) (s : Server) (ps : List Client) (e : JournalEntry) → s.mode ≡ Writing → e.number ≡ length s.closed + 1 → 1 ≤ clients_in e.client (head_view s ps)
+    → Allows (Holds key) slots id (head_view s ps, []) 0 (λ n. (n + (2 ^ 64 - 4294967296)) % 2 ^ 64) (given e (step slots 0 4294967296 0 none) (head_view s ps, []))
+gives key slots id s ps e writing next here st holds _ at small =
+    let w = holds.world in let v = head_view s ps in let cs = w.clients in
+    let is : s ≡ w.server = holds.spread.server_is id v at in
+    let same : w ≡ record { server = s; clients = cs } = ap (λ x. let y : World = record { server = x; clients = cs } in y) (sym is) in
+    let f : Fits key st.words record { server = s; clients = cs } = subst (λ x. Fits key st.words x) same holds.fits in
+    let there = client_of_here e.client ps here in
+    let inside : e.client < length s.limits = (let ok = f.seats (client_of e.client ps).number (client_of e.client ps) (holds.spread.client_is id v at there.0.0 (client_of e.client ps) there.0.1) in
+    subst (λ c. c < length s.limits) there.1 (place_within s.limits (client_of e.client ps).number (client_of e.client ps).step_limit ok.limit_is)) in
+    let n : ℕ = get_or st.words 0 0 in let fits : n < 18446744073709551616 = small in
+    let door : shut s.mode ≡ 4294967296 = ap shut writing in let g = f.gate in
+    let less : (n + (2 ^ 64 - 4294967296)) % 2 ^ 64 ≡ n - 4294967296 = omega arith in
+    let w' : World = record { server = after_give s e; clients = map (with_step e) cs } in (
+      head_view (after_give s e) (map (with_step e) ps),
+      keeps,
+      tt,
+      record {
+        world = w';
+        spread = spread_set st.views record { server = s; clients = cs } w' id v (head_view (after_give s e) (map (with_step e) ps)) (subst (λ x. Spread st.views x) same holds.spread) at (gives_moves s ps cs e (holds.spread.client_is id v at) here);
+        fits = rw less (fits_give key st.words s cs e (n - 4294967296) f writing next (omega arith) inside);
+      },
+      refl,
+    )
+
+-- ---- the same for a seat that is known to hold the server part
+
+abbrev Mine : Type 0
+Mine = Me (Unit {0}) View
+
+abbrev pub IsHead : Mine → Type 0
+IsHead me = me ≡ (head_view (the_server me.0) me.0.clients, [])
+
+pub announces_seat : (key : Setting) (slots id : ℕ) (me : Mine) → IsHead me → (the_server me.0).mode ≡ Resting → Allows (Holds key) slots id me 0 (λ n. bit_or n 4294967296) (announced (step slots 0 4294967296 0 none) me)
+announces_seat key slots id me is resting = let P : Mine → Type 0 = λ m. Allows (Holds key) slots id m 0 (λ n. bit_or n 4294967296) (announced (step slots 0 4294967296 0 none) m) in
+    subst P (sym is) (announces key slots id (the_server me.0) me.0.clients resting)
+
+pub settles_seat : (key : Setting) (slots id : ℕ) (me : Mine) → IsHead me → total busy me.0.clients ≡ 0 → (the_server me.0).mode ≡ Closing → Allows (Holds key) slots id me 0 (λ n. n) (settled (step slots 0 0 0 none) me)
+settles_seat key slots id me is idle closing = let P : Mine → Type 0 = λ m. Allows (Holds key) slots id m 0 (λ n. n) (settled (step slots 0 0 0 none) m) in
+    subst P (sym is) (settles key slots id (the_server me.0) me.0.clients closing idle)
+
+pub withdraws_seat : (key : Setting) (slots id : ℕ) (me : Mine) → IsHead me → (the_server me.0).mode ≡ Closing
+    → Allows (Holds key) slots id me 0 (λ n. (n + (2 ^ 64 - 4294967296)) % 2 ^ 64) (withdrew (step slots 0 4294967296 0 none) me)
+withdraws_seat key slots id me is closing = let P : Mine → Type 0 = λ m. Allows (Holds key) slots id m 0 (λ n. (n + (2 ^ 64 - 4294967296)) % 2 ^ 64) (withdrew (step slots 0 4294967296 0 none) m) in
+    subst P (sym is) (withdraws key slots id (the_server me.0) me.0.clients closing)
+
+pub tells_seat : (key : Setting) (slots id : ℕ) (me : Mine) → IsHead me → Allows (Holds key) slots id me 0 (λ n. n) (told (step slots 0 0 0 none) me)
+tells_seat key slots id me is = let P : Mine → Type 0 = λ m. Allows (Holds key) slots id m 0 (λ n. n) (told (step slots 0 0 0 none) m) in subst P (sym is) (tells key slots id (the_server me.0) me.0.clients)
+
+pub gives_seat : (key : Setting) (slots id : ℕ) (me : Mine) (e : JournalEntry) → IsHead me → (the_server me.0).mode ≡ Writing → e.number ≡ length (the_server me.0).closed + 1 → 1 ≤ total (is_client e.client) me.0.clients
+    → Allows (Holds key) slots id me 0 (λ n. (n + (2 ^ 64 - 4294967296)) % 2 ^ 64) (given e (step slots 0 4294967296 0 none) me)
+gives_seat key slots id me e is writing next here = let P : Mine → Type 0 = λ m. Allows (Holds key) slots id m 0 (λ n. (n + (2 ^ 64 - 4294967296)) % 2 ^ 64) (given e (step slots 0 4294967296 0 none) m) in
+    subst P (sym is) (gives key slots id (the_server me.0) me.0.clients e writing next here)
+
+-- ---- what a head keeps
+
+pub joined_is_head : (m me : Mine) (u : View) → m ≡ (both_views me.0 u, me.1) → IsHead me → IsHead m
+joined_is_head m me u joined is = let P : Mine → Type 0 = IsHead in subst P (sym joined)
+    (ap (λ (x : Mine). let y : Mine = (record { server = x.0.server; clients = me.0.clients ++ u.clients }, x.1) in y) is)
+
+pub same_seat_sits : (m me : Mine) → m ≡ me → AllSit (the_server me.0) me.0.clients → AllSit (the_server m.0) m.0.clients
+same_seat_sits m me same sit = let P : Mine → Type 0 = λ x. AllSit (the_server x.0) x.0.clients in subst P (sym same) sit
+
+pub given_idle : (e : JournalEntry) (ps : List Client) → total busy ps ≡ 0 → total busy (map (with_step e) ps) ≡ 0
+given_idle e ps idle = total_map busy busy (with_step e) ps (λ p. ap busy_mode (same_mode e p)) ∙ idle
+
+pub risen_idle : (c : ℕ) (ps : List Client) → total busy ps ≡ 0 → total busy (without c ps) ≡ 0
+risen_idle c [] idle = refl
+risen_idle c (p ∷ ps) idle = go (p.number == c) (risen_idle c ps (omega arith))
+  where
+    go : (b : Bool) → total busy (without c ps) ≡ 0 → total busy (if b then ps else p ∷ without c ps) ≡ 0
+    go true r = omega arith
+    go false r = omega arith
+
+-- what the head's type keeps, of a seat and the number of clients admitted
+abbrev pub HeadKeeps : Mine → ℕ → Bool → Type 0
+HeadKeeps me n b = IsHead me × (length (the_server me.0).limits ≡ n) × (total busy me.0.clients ≡ 0) × (b ≡ is_closing (the_server me.0).mode)
+
+pub risen_head : (m me : Mine) (c n : ℕ) (b : Bool) → m ≡ (record me.0 { clients = without c me.0.clients }, me.1) → HeadKeeps me n b → HeadKeeps m n b
+risen_head m me c n b is kept = let P : Mine → Type 0 = λ x. HeadKeeps x n b in subst P (sym is)
+    (ap (λ (x : Mine). let y : Mine = (record { server = x.0.server; clients = without c me.0.clients }, x.1) in y) kept.0, kept.1, risen_idle c me.0.clients kept.2, kept.3)
+
+pub joined_head : (m x me : Mine) (u : View) (n : ℕ) (b : Bool) → m ≡ x → x ≡ (both_views me.0 u, me.1) → HeadKeeps me n b → total busy u.clients ≡ 0 → HeadKeeps m n b
+joined_head m x me u n b same joined kept idle = let P : Mine → Type 0 = λ y. HeadKeeps y n b in
+    subst P (sym same) (
+      joined_is_head x me u joined kept.0,
+      subst (λ (y : Mine). length (the_server y.0).limits ≡ n) (sym joined) kept.1,
+      subst (λ (y : Mine). total busy y.0.clients ≡ 0) (sym joined) (let sum = total_append busy me.0.clients u.clients in let a = kept.2 in omega arith),
+      subst (λ (y : Mine). b ≡ is_closing (the_server y.0).mode) (sym joined) kept.3,
+    )
+
+pub given_head : (m me : Mine) (e : JournalEntry) (n : ℕ) (b : Bool) → (the_server me.0).mode ≡ Writing → m ≡ (head_view (after_give (the_server me.0) e) (map (with_step e) me.0.clients), []) → HeadKeeps me n b → HeadKeeps m n b
+given_head m me e n b writing is kept = let P : Mine → Type 0 = λ x. HeadKeeps x n b in subst P (sym is) (refl, kept.1, given_idle e me.0.clients kept.2, kept.3 ∙ ap is_closing writing)

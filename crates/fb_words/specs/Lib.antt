@@ -1,0 +1,4 @@
+pub mod Tables
+pub mod Views
+pub mod Rule
+pub mod Steps

@@ -1,0 +1,17 @@
+//! The shared words of one screen: tokens that step on them, and the rule that holds between any two steps.
+#![tactic(auto)]
+
+mod client_steps;
+mod known;
+mod plays;
+mod screen;
+mod seats;
+mod server_steps;
+mod tokens;
+
+pub use known::{
+    Call, Client, Closed, Item, KeptClip, Looked, Mode, PaintCall, PaintSheet, ScreenSetting,
+    Server, ServerMode, StepCall, View,
+};
+pub use screen::{Screen, WordRule};
+pub use tokens::{Head, Pass, Stub};
