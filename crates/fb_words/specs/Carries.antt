@@ -153,7 +153,7 @@ PixelCarried depth log p cell ink false = Untouched log p cell
 pub record CarriesPaint (setting : Setting) (cursor : Cursor) (mine : ℕ → Bool) (origin : Point) (sheet : Sheet) (reply : PaintReply) (log : List Item) : Type 0 where
   pub pixels : (p : ℕ) → p < pixel_count setting.size
       → PixelCarried setting.depth log p (shown_cell setting.size cursor p) (ink_on setting.size.w origin sheet p)
-          (is_painted reply && (mine p && not (is_skip (ink_on setting.size.w origin sheet p))))
+      (is_painted reply && (mine p && not (is_skip (ink_on setting.size.w origin sheet p))))
 
 -- the log carries a paint of a slot under a table
 abbrev pub CarriesPaintUnder : Setting → Table → ℕ → Sheet → PaintReply → List Item → Type 0

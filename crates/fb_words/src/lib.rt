@@ -2,7 +2,7 @@
 #![tactic(auto)]
 
 mod known;
-mod law;
+mod laws;
 
 pub use known::Item;
-pub use law::{paints_are_carried, steps_are_carried};
+pub use laws::{paints_are_carried, steps_are_carried};

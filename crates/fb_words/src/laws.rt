@@ -5,12 +5,10 @@ ghost use Rattle.fb_words.specs.Carries.{StepLaw, PaintLaw};
 /// for the scene after the step.
 pub fn steps_are_carried()
     ensures { StepLaw }
-{
-}
+{}
 
 /// Where words stand for a scene, the words after a log that carries a paint with its reply stand for the scene after the
 /// paint.
 pub fn paints_are_carried()
     ensures { PaintLaw }
-{
-}
+{}
