@@ -1,11 +1,13 @@
 //! The layout of the shared words: what each word of the published table holds, and the numbers of all words.
 #![tactic(auto)]
 
+mod laws;
 mod numbers;
 mod packing;
 mod spelling;
 mod tables;
 
+pub use laws::table_of_its_words;
 pub use numbers::{cell_at, pixel_at, row_at, saved_at};
 pub use packing::{pack, unpack};
 pub use spelling::word_of;

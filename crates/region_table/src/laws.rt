@@ -1,0 +1,9 @@
+//! A law of the layout. The function does nothing; its clause is the law.
+ghost use Rattle.region_table.specs.Spelling.{SpellingLaw};
+
+/// Where each word that says something is that of a table, the words are read as that table. So two tables are equal
+/// where all words that say something are.
+pub fn table_of_its_words()
+    ensures { SpellingLaw }
+{
+}
