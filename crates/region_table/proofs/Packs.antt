@@ -1,14 +1,12 @@
 -- What is packed into a word is read from it.
-use Rattle.std.proofs.Common.{◌≡◌, ℕ, ◌+◌, ◌*◌, ◌/◌, ◌%◌, ◌^◌, ◌<◌, ◌==◌, Bool, true, false, if◌then◌else◌, Option, Some, None, refl, sym, ap, ◌∙◌, arith}
-use Rattle.std.specs.Prelude.{ℤ, pos, ◌+ℤ◌, ◌-ℤ◌, ◌≤ℤ◌, nat_abs}
+use Rattle.std.proofs.Common.{◌≡◌, ℕ, ◌+◌, ◌*◌, ◌/◌, ◌%◌, ◌^◌, ◌<◌, ◌==◌, Bool, true, false, if◌then◌else◌, Option, Some, None, refl, arith}
 use Rattle.std.proofs.lemmas.Int.{ints}
 use Rattle.std.proofs.lemmas.Bool.Decides.{nat_tests}
 use Rattle.qws_base.specs.Points.{IsPlaced}
 use Rattle.qws_base.specs.declared.points.Point.{Point}
 use Rattle.qws_base.specs.declared.points.Rect.{Rect}
-use Rattle.qws_base.specs.declared.windows.Cursor.{Cursor}
 use Rattle.region_table.specs.Packing.{IsPackable, packed, unpacked}
-use Rattle.region_table.specs.Tables.{owner_word, owner_from, origin_word, origin_from, place_word, shape_word, IsCursor}
+use Rattle.region_table.specs.Tables.{owner_word, owner_from, origin_word, origin_from}
 
 pub unpacked_packed : (r : Rect) → IsPackable r → unpacked (packed r) ≡ r
 unpacked_packed r ok = grind (arith, ints)

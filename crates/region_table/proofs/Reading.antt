@@ -1,6 +1,6 @@
 -- The words of a table are read as that table.
-use Rattle.std.proofs.Common.{◌≡◌, ℕ, zero, suc, ◌+◌, ◌-◌, ◌*◌, ◌/◌, ◌%◌, ◌^◌, ◌<◌, ◌≤◌, ◌==◌, nat_lt, ◌&&◌, Bool, true, false, if◌then◌else◌, List, [], map, length, get_or, Option, Some, None, inl, inr, refl, sym, ap, ◌∙◌, subst, arith, eq-eqb, ne_eqb, ◌≢◌, ⊎_elim, ◌⊎◌}
-use Rattle.std.specs.Prelude.{slice_index, slice_index_or, All}
+use Rattle.std.proofs.Common.{◌≡◌, ℕ, zero, suc, ◌+◌, ◌-◌, ◌*◌, ◌/◌, ◌%◌, ◌^◌, ◌<◌, ◌≤◌, ◌==◌, nat_lt, true, false, if◌then◌else◌, List, map, length, get_or, inl, inr, refl, sym, ap, ◌∙◌, subst, arith}
+use Rattle.std.specs.Prelude.{slice_index}
 use Rattle.std.specs.List.{range_with_len}
 use Rattle.std.proofs.lemmas.Bool.{lt-ltb}
 use Rattle.std.proofs.lemmas.Bool.Decides.{nat_tests}
@@ -9,13 +9,12 @@ use Rattle.std.proofs.lemmas.Nat.{div-add-mod'}
 use Rattle.std.proofs.lemmas.List.{get_or-map}
 use Rattle.std.proofs.lemmas.List.Elements.{All-get_or}
 use Rattle.std.proofs.lemmas.List.FromFn.{get_or-map-range_with_len, fill_by_all}
-use Rattle.qws_base.specs.Shown.{cell_at}
 use Rattle.qws_base.specs.declared.points.Rect.{Rect}
 use Rattle.qws_base.specs.declared.windows.Cursor.{Cursor}
-use Rattle.region_table.specs.Numbers.{row_word, cell_word, IsTableWord}
+use Rattle.region_table.specs.Numbers.{row_word, cell_word}
 use Rattle.region_table.specs.Packing.{IsPackable, packed, unpacked}
-use Rattle.region_table.specs.Tables.{no_row, row_of, owner_word, owner_from, origin_word, origin_from, place_word, shape_word, cell_value, head_word_of, row_word_of, word_of_table, IsCursor, IsRow, IsSpellable, row_from, cells_from, cursor_from, rows_from, table_from}
-use Rattle.region_table.specs.Spelling.{IsSaid, Spell, SpellingLaw}
+use Rattle.region_table.specs.Tables.{no_row, row_of, owner_from, origin_from, place_word, shape_word, head_word_of, row_word_of, IsCursor, IsRow, IsSpellable, row_from, cells_from, cursor_from, rows_from, table_from}
+use Rattle.region_table.specs.Spelling.{Spell, SpellingLaw}
 use Rattle.region_table.specs.declared.tables.Row.{Row}
 use Rattle.region_table.specs.declared.tables.Table.{Table}
 use Rattle.region_table.proofs.Packs.{unpacked_packed, owner_read, origin_read, shown_read, x_read, y_read}
@@ -48,13 +47,13 @@ rects_read words table slot n ok spell low is =
     let none : Rect = unpacked 0 in
     let few : length rects ≤ 256 = ok.few in
     sym (fill_by_all (λ j. unpacked (words (row_word slot + 4 + j))) rects n none (sym is) (λ k below.
-        let within : k < length rects = omega arith in
-        let word : words (row_word slot + (k + 4)) ≡ row_word_of (row_of table slot) (k + 4) = row_said words table slot (k + 4) spell low (omega arith) (omega arith) in
-        let place : row_word slot + 4 + k ≡ row_word slot + (k + 4) = omega arith in
-        let here : k + 4 - 4 ≡ k = omega arith in
-        let value : row_word_of (row_of table slot) (k + 4) ≡ packed (get_or rects k none) =
-            past_four (row_of table slot) k ∙ ap (slice_index (map packed rects)) here ∙ get_or-map packed rects k none 0 within in
-        sym (ap (λ x. unpacked (words x)) place ∙ ap unpacked (word ∙ value) ∙ unpacked_packed (get_or rects k none) (All-get_or IsPackable rects k none within ok.packable))))
+    let within : k < length rects = omega arith in
+    let word : words (row_word slot + (k + 4)) ≡ row_word_of (row_of table slot) (k + 4) = row_said words table slot (k + 4) spell low (omega arith) (omega arith) in
+    let place : row_word slot + 4 + k ≡ row_word slot + (k + 4) = omega arith in
+    let here : k + 4 - 4 ≡ k = omega arith in
+    let value : row_word_of (row_of table slot) (k + 4) ≡ packed (get_or rects k none) =
+    past_four (row_of table slot) k ∙ ap (slice_index (map packed rects)) here ∙ get_or-map packed rects k none 0 within in
+    sym (ap (λ x. unpacked (words x)) place ∙ ap unpacked (word ∙ value) ∙ unpacked_packed (get_or rects k none) (All-get_or IsPackable rects k none within ok.packable))))
   where
     past_four : (row : Row) (k : ℕ) → row_word_of row (k + 4) ≡ slice_index (map packed row.rects) (k + 4 - 4)
     past_four row k =
@@ -75,17 +74,17 @@ pub row_read : (words : ℕ → ℕ) (table : Table) (slot : ℕ) → IsRow (row
 row_read words table slot ok spell low =
     let first : row_word slot ≡ row_word slot + 0 = omega arith in
     same_row (row_from words slot) (row_of table slot)
-        (ap owner_from (ap words first ∙ row_said words table slot 0 spell low (omega arith) (omega arith)) ∙ owner_read (row_of table slot).owner)
-        (row_said words table slot 1 spell low (omega arith) (omega arith))
-        (ap origin_from (row_said words table slot 2 spell low (omega arith) (omega arith)) ∙ origin_read (row_of table slot).origin ok.placed)
-        (rects_read words table slot (words (row_word slot + 3)) ok spell low (row_said words table slot 3 spell low (omega arith) (omega arith)))
+    (ap owner_from (ap words first ∙ row_said words table slot 0 spell low (omega arith) (omega arith)) ∙ owner_read (row_of table slot).owner)
+    (row_said words table slot 1 spell low (omega arith) (omega arith))
+    (ap origin_from (row_said words table slot 2 spell low (omega arith) (omega arith)) ∙ origin_read (row_of table slot).origin ok.placed)
+    (rects_read words table slot (words (row_word slot + 3)) ok spell low (row_said words table slot 3 spell low (omega arith) (omega arith)))
 
 rows_read : (words : ℕ → ℕ) (table : Table) → IsSpellable table → Spell words table → rows_from words ≡ table.rows
 unfolding rows_from
 rows_read words table ok spell =
     let whole : length table.rows ≡ 33 = ok.whole in
     sym (fill_by_all (row_from words) table.rows 33 no_row whole (λ k low.
-        sym (row_read words table k (All-get_or IsRow table.rows k no_row (omega arith) ok.rows) spell low)))
+    sym (row_read words table k (All-get_or IsRow table.rows k no_row (omega arith) ok.rows) spell low)))
 
 -- ---- the cursor
 
@@ -156,12 +155,12 @@ cursor_read words table ok spell =
     let w : words 3 % 2 ^ 16 ≡ cursor.w = ap (λ n. n % 65536) shape ∙ omega arith in
     let h : words 3 / 2 ^ 16 ≡ cursor.h = ap (λ n. n / 65536) shape ∙ omega arith in
     same_cursor (cursor_from words) cursor
-        (ap (λ n. n % 65536) place ∙ x_read cursor.x cursor.y cursor.shown (omega arith) (omega arith))
-        (ap (λ n. n / 65536 % 65536) place ∙ y_read cursor.x cursor.y cursor.shown (omega arith) (omega arith))
-        w
-        h
-        (ap (λ n. cells_from words n (words 3 / 65536)) w ∙ ap (cells_from words cursor.w) h ∙ cells_read words table ok spell)
-        (ap (λ n. n / 4294967296 == 1) place ∙ shown_read cursor.x cursor.y cursor.shown (omega arith) (omega arith))
+    (ap (λ n. n % 65536) place ∙ x_read cursor.x cursor.y cursor.shown (omega arith) (omega arith))
+    (ap (λ n. n / 65536 % 65536) place ∙ y_read cursor.x cursor.y cursor.shown (omega arith) (omega arith))
+    w
+    h
+    (ap (λ n. cells_from words n (words 3 / 65536)) w ∙ ap (cells_from words cursor.w) h ∙ cells_read words table ok spell)
+    (ap (λ n. n / 4294967296 == 1) place ∙ shown_read cursor.x cursor.y cursor.shown (omega arith) (omega arith))
 
 pub spelling_law : SpellingLaw
 spelling_law words table ok spell =

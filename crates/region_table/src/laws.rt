@@ -1,9 +1,15 @@
 //! A law of the layout. The function does nothing; its clause is the law.
 ghost use Rattle.region_table.specs.Spelling.{SpellingLaw};
+ghost use Rattle.region_table.specs.Published.{PublishedLaw};
 
 /// Where each word that says something is that of a table, the words are read as that table. So two tables are equal
 /// where all words that say something are.
 pub fn table_of_its_words()
     ensures { SpellingLaw }
-{
-}
+{}
+
+/// The table of a state tells who owns each pixel, where each slot's origin is, and whose each slot is, as the state's
+/// windows do.
+pub fn table_tells_windows()
+    ensures { PublishedLaw }
+{}
