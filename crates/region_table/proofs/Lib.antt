@@ -1,3 +1,5 @@
 pub mod Packs
 pub mod Reading
 pub mod Telling
+pub mod Pixels
+pub mod SameScenes
