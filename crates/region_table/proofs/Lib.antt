@@ -3,3 +3,4 @@ pub mod Reading
 pub mod Telling
 pub mod Pixels
 pub mod SameScenes
+pub mod Openings

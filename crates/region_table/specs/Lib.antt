@@ -4,3 +4,4 @@ pub mod Tables
 pub mod Spelling
 pub mod Layouts
 pub mod Published
+pub mod Opening

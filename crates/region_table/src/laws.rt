@@ -1,6 +1,7 @@
 //! A law of the layout. The function does nothing; its clause is the law.
 ghost use Rattle.region_table.specs.Spelling.{SpellingLaw};
 ghost use Rattle.region_table.specs.Published.{PublishedLaw};
+ghost use Rattle.region_table.specs.Opening.{OpeningLaw};
 
 /// Where each word that says something is that of a table, the words are read as that table. So two tables are equal
 /// where all words that say something are.
@@ -12,4 +13,9 @@ pub fn table_of_its_words()
 /// windows do.
 pub fn table_tells_windows()
     ensures { PublishedLaw }
+{}
+
+/// The words that a screen opens with are read as a table without windows, and that is the table of the opening state.
+pub fn opening_table_of_words()
+    ensures { OpeningLaw }
 {}
