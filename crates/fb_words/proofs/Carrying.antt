@@ -1,5 +1,5 @@
 -- What a log brings from word to word.
-use Rattle.std.proofs.Common.{◌≡◌, ℕ, ⊎_elim, List, [], ◌∷◌, Option, Some, None, refl, sym, ap, ◌∙◌}
+use Rattle.std.proofs.Common.{◌≡◌, ℕ, ⊎_elim, List, [], ◌∷◌, ◌++◌, inr, Option, Some, None, refl, sym, ap, ◌∙◌}
 use Rattle.fb_words.specs.declared.known.Item.{Item}
 use Rattle.fb_words.specs.declared.known.Item.TheVariants.{Pick, Put}
 use Rattle.fb_words.specs.Lines.{on, written, Shows}
@@ -41,3 +41,34 @@ brings words log a b true_in how = ⊎_elim
     (λ (h : (v : ℕ) × FirstPicks v (on a log) × (last_put (on b log) ≡ Some v)). put_there words log b h.0 h.2 ∙ picks_true h.0 (words a) (on a log) h.1 (true_in a))
     (λ (h : (a ≡ b) × (last_put (on b log) ≡ None)). left_there words log b h.1 ∙ ap words (sym h.0))
     how
+
+-- ---- logs one after the other
+
+pub or_before : Option ℕ → Option ℕ → Option ℕ
+or_before (Some v) o = Some v
+or_before None o = o
+
+by_later : (a b : Option ℕ) (u : ℕ) → or_later (or_before a b) u ≡ or_before a (or_later b u)
+unfolding or_before
+by_later (Some v) b u = refl
+by_later None b u = refl
+
+or_none : (a : Option ℕ) → a ≡ or_before a None
+unfolding or_before
+or_none (Some v) = refl
+or_none None = refl
+
+pub last_put-append : (l m : List Item) → last_put (l ++ m) ≡ or_before (last_put m) (last_put l)
+unfolding or_before
+last_put-append [] m = or_none (last_put m)
+last_put-append (Pick w u ∷ l) m = last_put-append l m
+last_put-append (Put w u ∷ l) m = ap (λ o. or_later o u) (last_put-append l m) ∙ by_later (last_put m) (last_put l) u
+
+pub first_picks-append : (v : ℕ) (l m : List Item) → FirstPicks v l → FirstPicks v (l ++ m)
+first_picks-append v [] m has = absurd has
+first_picks-append v (Pick w u ∷ l) m has = has
+first_picks-append v (Put w u ∷ l) m has = absurd has
+
+-- an empty log keeps each word
+pub nothing_brings : (a b : ℕ) → a ≡ b → Brings [] a b
+nothing_brings a b same = inr (same, refl)

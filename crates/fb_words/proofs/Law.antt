@@ -1,12 +1,9 @@
 -- The law of carrying: at each pixel, then for the whole scene.
-use Rattle.std.proofs.Common.{◌≡◌, ℕ, ◌+◌, ◌*◌, ◌<◌, length, Bool, true, false, not, ◌&&◌, ⊎_elim, List, Option, Some, None, refl, sym, ap, ◌∙◌, subst, arith, if◌then◌else◌}
-use Rattle.std.specs.Prelude.{is_none, slice_index, ℤ, pos, ◌+ℤ◌, nat_abs, int_le, int_lt}
+use Rattle.std.proofs.Common.{◌≡◌, ℕ, ◌<◌, length, Bool, true, false, not, ◌&&◌, ⊎_elim, List, Option, Some, None, refl, sym, ap, ◌∙◌, subst, if◌then◌else◌}
+use Rattle.std.specs.Prelude.{is_none, slice_index}
 use Rattle.std.specs.Option.{option_map, option_map_or}
-use Rattle.std.proofs.lemmas.List.FromFn.{get_or-map-range_with_len}
-use Rattle.std.proofs.lemmas.Int.{ints}
-use Rattle.std.proofs.lemmas.Nat.{mul-add-lt}
 use Rattle.qws_base.specs.Sides.{Sides}
-use Rattle.qws_base.specs.Points.{pixel_count, point_of, pixel_at, is_on_screen, spans, minus}
+use Rattle.qws_base.specs.Points.{pixel_count, point_of, pixel_at, minus}
 use Rattle.qws_base.specs.Inks.{ink_after, is_skip}
 use Rattle.qws_base.specs.Windows.{Layout, owns}
 use Rattle.qws_base.specs.States.{is_refused, moved_slot}
@@ -26,6 +23,7 @@ use Rattle.region_table.specs.declared.tables.Table.{Table}
 use Rattle.fb_words.specs.declared.known.Item.{Item}
 use Rattle.fb_words.specs.Lines.{on}
 use Rattle.fb_words.specs.Carries.{last_put, TrueIn, words_after, ShownCell, shown_cell, scene_word, under_cell, StandAt, StandFor, IsBare, Keeps, SceneCarried, CellCarried, is_painted, InkCarried, Untouched, PixelCarried, CarriesPaint, scene_of_step, StepLaw, PaintLaw}
+use Rattle.region_table.proofs.Pixels.{pixel_within, at_pixel}
 use Rattle.fb_words.proofs.Carrying.{put_there, left_there, brings, picks_true}
 
 -- the cell that lies on a pixel is the one whose blend stands above it
@@ -94,26 +92,6 @@ module _ (setting : Setting) (before after : Table) (words : ℕ → ℕ) (scene
 
 -- ---- the pixel that a move carries is on the screen
 
-both : (a b : Bool) → (a && b) ≡ true → (a ≡ true) × (b ≡ true)
-both true b h = (refl, h)
-both false b h = cc
-
--- a coordinate on an axis
-on_axis : (at : ℤ) (n : ℕ) → spans (pos 0) n at ≡ true → nat_abs at < n
-on_axis at n h =
-    let parts = both (int_le (pos 0) at) (int_lt at (pos 0 +ℤ pos n)) h in
-    grind (arith, ints)
-
-at_test : (size : Sides) (p : Point) (q : ℕ) (b : Bool) → is_on_screen size p ≡ b → (if b then Some (nat_abs p.y * size.w + nat_abs p.x) else None) ≡ Some q → q < pixel_count size
-at_test size p q false on is = cc
-at_test size p q true on is =
-    let parts = both (spans (pos 0) size.w p.x) (spans (pos 0) size.h p.y) on in
-    let same : nat_abs p.y * size.w + nat_abs p.x ≡ q = cc in
-    subst (λ n. n < size.w * size.h) same (mul-add-lt (nat_abs p.y) size.w (nat_abs p.x) size.h (on_axis p.y size.h parts.1) (on_axis p.x size.w parts.0))
-
-pub pixel_within : (size : Sides) (p : Point) (q : ℕ) → pixel_at size p ≡ Some q → q < pixel_count size
-pixel_within size p q is = at_test size p q (is_on_screen size p) refl is
-
 source_within : (size : Sides) (before after : Layout) (slot p q : ℕ) (found : Option ℕ) → ((k : ℕ) → found ≡ Some k → k < pixel_count size) → source_in size before after slot p found ≡ Some q → q < pixel_count size
 source_within size before after slot p q None inside is = cc
 source_within size before after slot p q (Some k) inside is = go (owns after slot p && owns before slot k) is
@@ -130,9 +108,6 @@ carried_within size before after (Some slot) p q is =
 
 -- ---- the laws
 
-at_pixel : (size : Sides) (f : ℕ → ℕ) (p : ℕ) → p < pixel_count size → slice_index (by_pixels size f) p ≡ f p
-at_pixel size f p within = get_or-map-range_with_len f 0 (pixel_count size) p p 0 within (omega arith)
-
 -- a step, by whether the command was refused
 step_at : (setting : Setting) (before after : Table) (moved : Option ℕ) (words : ℕ → ℕ) (scene : List ℕ) (log : List Item) (refused : Bool) (p : ℕ) → p < pixel_count setting.size
     → StandFor setting before.cursor words scene → IsBare setting (layout_of_table setting.size before) scene → TrueIn words log
@@ -147,7 +122,7 @@ step_at setting before after moved words scene log false p within stood bared tr
     let new : Layout = layout_of_table setting.size after in
     scene_done setting before after words scene log p (carried_from setting.size old new moved p) (is_none (new.owner p)) within
     (λ q e. carried_within setting.size old new moved p q e) stood bared true_in carried
-    ∙ sym (at_pixel setting.size (pixel_after_step setting old new moved scene) p within)
+    ∙ sym (at_pixel setting.size (pixel_after_step setting old new moved scene) p 0 within)
 
 pub step_law : StepLaw
 step_law setting before after command reply words scene log stood bared true_in carried = λ p within.
@@ -205,7 +180,7 @@ module _ (setting : Setting) (cursor : Cursor) (layout : Layout) (slot : ℕ) (s
       let ink : Ink = ink_on setting.size.w (layout.origin slot) sheet p in
       let mine : Bool = owns layout slot p in
       let painted : is_painted reply ≡ true = ap is_painted is in
-      subst (StandBy setting.depth (words_after words log) p cell) (sym (at_pixel setting.size (pixel_after_paint setting layout slot sheet scene) p within))
+      subst (StandBy setting.depth (words_after words log) p cell) (sym (at_pixel setting.size (pixel_after_paint setting layout slot sheet scene) p 0 within))
       (pixel_done setting.depth words log p cell ink (slice_index scene p) mine (is_skip ink) refl true_in
       (stand_by setting cursor words p (slice_index scene p) (stood p within))
       (subst (λ b. PixelCarried setting.depth log p cell ink (b && (mine && not (is_skip ink)))) painted (carried.pixels p within)))

@@ -4,3 +4,4 @@ pub mod Telling
 pub mod Pixels
 pub mod SameScenes
 pub mod Openings
+pub mod Owning

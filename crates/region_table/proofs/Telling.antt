@@ -5,7 +5,7 @@ use Rattle.std.specs.List.{find, position_or_len}
 use Rattle.std.specs.Option.{option_map, option_map_or}
 use Rattle.std.proofs.Math.Nat.{div-lt_iff_lt-mul, mod-lt}
 use Rattle.std.proofs.lemmas.Int.{ints}
-use Rattle.std.proofs.lemmas.Bool.{lt-ltb, cases_lt}
+use Rattle.std.proofs.lemmas.Bool.{lt-ltb, cases_lt, and_parts, eqb-true}
 use Rattle.std.proofs.lemmas.Bool.Decides.{nat_tests}
 use Rattle.std.proofs.lemmas.List.{get_or_past}
 use Rattle.std.proofs.lemmas.List.Sums.{position_or_len_is}
@@ -15,9 +15,10 @@ use Rattle.qws_base.specs.Sides.{Sides}
 use Rattle.qws_base.specs.Points.{spans, pixel_count, point_of, is_on_screen, origin_zero}
 use Rattle.qws_base.specs.Windows.{layout_of, has_slot, is_own, covers, owner_at, is_slot}
 use Rattle.qws_base.specs.States.{State}
+use Rattle.qws_base.specs.declared.points.Point.{Point}
 use Rattle.qws_base.specs.declared.windows.WindowView.{WindowView}
 use Rattle.region_table.specs.Tables.{no_row, row_of}
-use Rattle.region_table.specs.Layouts.{row_holds, is_client, layout_of_table}
+use Rattle.region_table.specs.Layouts.{row_holds, is_client, layout_of_table, AreApart}
 use Rattle.region_table.specs.Published.{client_of_slot, IsTableOf, TellSame, AreSlotted, PublishedLaw}
 use Rattle.region_table.specs.declared.tables.Row.{Row}
 use Rattle.region_table.specs.declared.tables.Table.{Table}
@@ -153,3 +154,20 @@ module _ (size : Sides) (state : State) (stamp : ℕ) (table : Table) where
 
 pub published_law : PublishedLaw
 published_law size state stamp table is ok = published size state stamp table is ok
+
+-- no point is in two rows of the table of a state
+both_slots : (i j : ℕ) (found : Option ℕ) → is_slot i found ≡ true → is_slot j found ≡ true → i ≡ j
+both_slots i j None a b = cc
+both_slots i j (Some k) a b = sym (eqb-true k i a) ∙ eqb-true k j b
+
+pub published_apart : (size : Sides) (state : State) (stamp : ℕ) (table : Table) → IsTableOf size state stamp table → AreApart table
+published_apart size state stamp table is = record {
+  apart = λ i j p a b.
+      both_slots i j (owner_at state.windows p) (slot_of i p a) (slot_of j p b);
+}
+  where
+    slot_of : (k : ℕ) (p : Point) → row_holds p (row_of table k) ≡ true → is_slot k (owner_at state.windows p) ≡ true
+    slot_of k p has = ⊎_elim
+        (λ (low : k < 32). (and_parts (is_on_screen size p) (is_slot k (owner_at state.windows p)) (sym ((is.rows k low).region.points p) ∙ has)).1)
+        (λ (high : 32 ≤ k). absurd (let none : row_holds p (row_of table k) ≡ false = ap (row_holds p) (row_past table k is.whole is.last high) in cc))
+        (cases_lt k 32)

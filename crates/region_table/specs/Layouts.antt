@@ -1,5 +1,5 @@
 -- What a table tells of the windows.
-use Rattle.std.specs.Prelude.{ℕ, Bool, false, ◌==◌, Option, None, Some, position}
+use Rattle.std.specs.Prelude.{◌≡◌, ℕ, Bool, true, false, ◌==◌, Option, None, Some, position}
 use Rattle.qws_base.specs.Sides.{Sides}
 use Rattle.qws_base.specs.Points.{any_holds, point_of}
 use Rattle.qws_base.specs.Windows.{Layout}
@@ -27,3 +27,7 @@ layout_of_table size table = record {
   origin = λ slot. (row_of table slot).origin;
   is_own = λ client slot. is_client client (row_of table slot).owner;
 }
+
+-- no point is in two rows
+pub record AreApart (table : Table) : Type 0 where
+  pub apart : (i j : ℕ) (p : Point) → row_holds p (row_of table i) ≡ true → row_holds p (row_of table j) ≡ true → i ≡ j
