@@ -95,12 +95,12 @@ paint_same setting cursor cursor' mine mine' origin sheet reply log same cells c
 }
 
 -- under a table whose rows are apart, the pixels that matter are those of the slot's row
-pub paint_of_row : (setting : Setting) (table : Table) (slot : ℕ) (sheet : Sheet) (reply : PaintReply) (log : List Item) → AreApart table
+pub paint_of_row : (setting : Setting) (table : Table) (slot : ℕ) (sheet : Sheet) (reply : PaintReply) (log : List Item) → AreApart setting.size table
     → CarriesPaint setting table.cursor (λ p. row_holds (point_of setting.size.w p) (row_of table slot)) (row_of table slot).origin sheet reply log
     → CarriesPaintUnder setting table slot sheet reply log
 paint_of_row setting table slot sheet reply log apart carried =
     paint_same setting table.cursor table.cursor (λ p. row_holds (point_of setting.size.w p) (row_of table slot)) (owns (layout_of_table setting.size table) slot) (row_of table slot).origin sheet reply log
-    (λ p within. sym (owns_row setting.size table slot p apart)) (λ p within. refl) carried
+    (λ p within. sym (owns_row setting.size table slot p apart within)) (λ p within. refl) carried
 
 -- an empty log carries a paint that is gone
 pub gone_carried : (setting : Setting) (cursor : Cursor) (mine : ℕ → Bool) (origin : Point) (sheet : Sheet) (reply : PaintReply) → is_painted reply ≡ false

@@ -160,10 +160,10 @@ both_slots : (i j : ℕ) (found : Option ℕ) → is_slot i found ≡ true → i
 both_slots i j None a b = cc
 both_slots i j (Some k) a b = sym (eqb-true k i a) ∙ eqb-true k j b
 
-pub published_apart : (size : Sides) (state : State) (stamp : ℕ) (table : Table) → IsTableOf size state stamp table → AreApart table
+pub published_apart : (size : Sides) (state : State) (stamp : ℕ) (table : Table) → IsTableOf size state stamp table → AreApart size table
 published_apart size state stamp table is = record {
-  apart = λ i j p a b.
-      both_slots i j (owner_at state.windows p) (slot_of i p a) (slot_of j p b);
+  apart = λ i j p within a b.
+      both_slots i j (owner_at state.windows (point_of size.w p)) (slot_of i (point_of size.w p) a) (slot_of j (point_of size.w p) b);
 }
   where
     slot_of : (k : ℕ) (p : Point) → row_holds p (row_of table k) ≡ true → is_slot k (owner_at state.windows p) ≡ true

@@ -1,7 +1,7 @@
 -- What a table tells of the windows.
-use Rattle.std.specs.Prelude.{◌≡◌, ℕ, Bool, true, false, ◌==◌, Option, None, Some, position}
+use Rattle.std.specs.Prelude.{◌≡◌, ℕ, ◌<◌, Bool, true, false, ◌==◌, Option, None, Some, position}
 use Rattle.qws_base.specs.Sides.{Sides}
-use Rattle.qws_base.specs.Points.{any_holds, point_of}
+use Rattle.qws_base.specs.Points.{any_holds, point_of, pixel_count}
 use Rattle.qws_base.specs.Windows.{Layout}
 use Rattle.qws_base.specs.declared.points.Point.{Point}
 use Rattle.region_table.specs.Tables.{row_of}
@@ -28,6 +28,6 @@ layout_of_table size table = record {
   is_own = λ client slot. is_client client (row_of table slot).owner;
 }
 
--- no point is in two rows
-pub record AreApart (table : Table) : Type 0 where
-  pub apart : (i j : ℕ) (p : Point) → row_holds p (row_of table i) ≡ true → row_holds p (row_of table j) ≡ true → i ≡ j
+-- no pixel of the screen is in two rows
+pub record AreApart (size : Sides) (table : Table) : Type 0 where
+  pub apart : (i j p : ℕ) → p < pixel_count size → row_holds (point_of size.w p) (row_of table i) ≡ true → row_holds (point_of size.w p) (row_of table j) ≡ true → i ≡ j
