@@ -1,3 +1,4 @@
 pub mod Carrying
 pub mod Law
 pub mod Standing
+pub mod Sessions

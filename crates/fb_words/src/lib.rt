@@ -5,4 +5,4 @@ mod known;
 mod laws;
 
 pub use known::Item;
-pub use laws::{paints_are_carried, steps_are_carried};
+pub use laws::{paints_are_carried, pictures_are_shown, sessions_are_carried, steps_are_carried};
