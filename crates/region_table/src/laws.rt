@@ -1,4 +1,4 @@
-//! A law of the layout. The function does nothing; its clause is the law.
+//! Laws of the layout. Each function does nothing; its clause is the law.
 ghost use Rattle.region_table.specs.Spelling.{SpellingLaw};
 ghost use Rattle.region_table.specs.Published.{PublishedLaw};
 ghost use Rattle.region_table.specs.Opening.{OpeningLaw};
