@@ -1,5 +1,7 @@
 -- What open turns are, and what a refused one leaves.
-use Rattle.std.specs.Prelude.{◌≡◌, ℕ, [], ◌∷◌, ◌++◌, None, Result, Ok, Err}
+use Rattle.fb_words.specs.Steps.{stamp_in}
+use Rattle.fb_words.specs.declared.known.Client.{Client}
+use Rattle.std.specs.Prelude.{◌≡◌, ℕ, [], ◌∷◌, ◌++◌, Some, None, Result, Ok, Err}
 use Rattle.fb_words.specs.declared.known.Mode.TheVariants.{Idle, Reading}
 use Rattle.fb_words.specs.declared.known.ServerMode.{ServerMode}
 use Rattle.fb_words.specs.declared.known.ServerMode.TheVariants.{Resting, Closing, Writing}
@@ -10,9 +12,9 @@ use Rattle.display_lock.specs.declared.turns.ServerTurn.{ServerTurn}
 
 -- ---- a painter
 
--- let in, with no looked words and an empty log
-abbrev pub let_in : PassView → PassView
-let_in p = record p { client = record p.client { mode = Reading None None [] [] } }
+-- let in, with an empty log; of the table it has looked at the stamp
+abbrev pub let_in : PassView → ℕ → PassView
+let_in p stamp = record p { client = record p.client { mode = Reading (Some stamp) None (record { word = 1; value = stamp } ∷ []) [] } }
 
 -- turned away by the word found
 abbrev pub turned_away : PassView → ℕ → PassView
@@ -22,8 +24,15 @@ abbrev pub IsTurned : {A : Type 0} → PassView → Result A Busy → PassView �
 IsTurned p (Ok t) now = Unit {0}
 IsTurned p (Err busy) now = now ≡ turned_away p busy.found
 
+abbrev pub client_in : PaintTurn → Client
+client_in t = t.pass.now.client
+
 abbrev pub IsOpen : PaintTurn → Type 0
-IsOpen t = (t.pass.now.screen ≡ t.screen.now) × (reading t.pass.now.client ≡ 1)
+IsOpen t = (t.pass.now.screen ≡ t.screen.now) × (reading (client_in t) ≡ 1) × (stamp_in (client_in t).mode ≡ Some t.stamp)
+
+-- the same turn, of the same pass on the same screen
+abbrev pub SameTurn : PaintTurn → PaintTurn → Type 0
+SameTurn t u = (u.pass.ghost_name ≡ t.pass.ghost_name) × (u.screen.now ≡ t.screen.now) × (u.stamp ≡ t.stamp) × (u.pass.now.screen ≡ t.pass.now.screen) × (u.pass.now.book_limit ≡ t.pass.now.book_limit)
 
 -- ---- the server
 
@@ -40,6 +49,10 @@ IsShutOut h (Err busy) now = now ≡ shut_out h busy.found
 
 abbrev pub IsOpenServer : ServerTurn → Type 0
 IsOpenServer t = (t.head.now.screen ≡ t.screen.now) × (t.head.now.server.mode ≡ Writing)
+
+-- the same turn, of the same head on the same screen
+abbrev pub SameServerTurn : ServerTurn → ServerTurn → Type 0
+SameServerTurn t u = (u.head.ghost_name ≡ t.head.ghost_name) × (u.screen.now ≡ t.screen.now)
 
 -- closing no more
 abbrev pub rested : ServerMode → ServerMode

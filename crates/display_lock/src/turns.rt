@@ -1,16 +1,19 @@
 //! Turns. A turn borrows its token, and has to be ended.
-ghost use Rattle.std.specs.Prelude.{◌≡◌, ◌+◌, ◌<◌, ◌≤◌, ◌^◌, false, length, map, IfOk, IfErr, MatchResult};
+ghost use Rattle.std.specs.Prelude.{◌≡◌, ◌+◌, ◌<◌, ◌≤◌, ◌^◌, false, ℕ, Some, length, map, slice_index, IfOk, IfErr, MatchResult};
 ghost use Rattle.std.specs.Borrow.{sem, RestsIfErr};
 ghost use Rattle.fb_words.specs.declared.known.Mode.TheVariants.{Idle};
 ghost use Rattle.fb_words.specs.declared.known.ServerMode.TheVariants.{Resting, Closing, Writing};
-ghost use Rattle.fb_words.specs.Views.{total, is_client, is_writing};
-ghost use Rattle.fb_words.specs.Steps.{after_retreat, after_announce, after_give, with_step, AllHere};
+ghost use Rattle.region_table.specs.Numbers.{IsTableWord, row_word};
+ghost use Rattle.fb_words.specs.declared.known.KeptClip.{KeptClip};
+ghost use Rattle.fb_words.specs.Clips.{look_of, looked_in, kept, Sees};
+ghost use Rattle.fb_words.specs.Views.{total, is_client, is_writing, books_in};
+ghost use Rattle.fb_words.specs.Steps.{after_look, paint_call, after_leave, IsEntryOf, after_announce, after_read, after_write, IsNextTable, after_give, with_step, AllHere};
 ghost use Rattle.fb_words.specs.contracts.tokens.Pass as pass_of;
 ghost use Rattle.fb_words.specs.contracts.tokens.Head as head_of;
-ghost use Rattle.display_lock.specs.Turns.{IsTurned, IsOpen, turned_away, let_in, IsShutOut, IsOpenServer, shut_out, opened, withdrawn};
+ghost use Rattle.display_lock.specs.Turns.{IsTurned, IsOpen, SameTurn, client_in, turned_away, let_in, IsShutOut, SameServerTurn, IsOpenServer, shut_out, opened, withdrawn};
 
 use fb_words::{Head, Pass, Screen};
-use qws_base::JournalEntry;
+use qws_base::{BookEntry, JournalEntry, Picture};
 
 /// The lock was taken: the gate word that was found.
 #[derive(Debug, Drop)]
@@ -22,6 +25,7 @@ pub struct Busy {
 pub struct PaintTurn<'a> {
     screen: &'a Screen,
     pass: &'a mut Pass,
+    stamp: u64,
 }
 
 /// An open turn of the server.
@@ -32,11 +36,15 @@ pub struct ServerTurn<'a> {
 
 const CLOSED: u64 = 1 << 32;
 
-// Enters, or is turned away.
-fn get_in(screen: &Screen, pass: &mut Pass) -> Result<(), Busy>
+// The word of the stamp.
+const STAMP: u64 = 1;
+
+// Enters and looks at the stamp, or is turned away.
+fn get_in(screen: &Screen, pass: &mut Pass) -> Result<u64, Busy>
     requires screen { pass.old.screen ≡ screen.now }
     requires idle { pass.old.client.mode ≡ Idle }
-    ensures pass { MatchResult result (λ _. pass.new ≡ let_in pass.old) (λ busy. pass.new ≡ turned_away pass.old busy.found) }
+    ensures pass { MatchResult result (λ stamp. pass.new ≡ let_in pass.old stamp) (λ busy. pass.new ≡ turned_away pass.old busy.found) }
+    ensures seen { IfOk result (λ stamp. (pass.old.client.seen ≤ stamp) × Sees (let_in pass.old stamp).client) }
     ensures found { IfErr result (λ busy. 2 ^ 32 ≤ busy.found) }
 {
     let found = screen.enter(pass);
@@ -44,31 +52,35 @@ fn get_in(screen: &Screen, pass: &mut Pass) -> Result<(), Busy>
         screen.retreat(pass);
         return Err(Busy { found });
     }
-    Ok(())
+    Ok(screen.look(pass, STAMP))
 }
 
-/// A painter's turn. `Busy` comes exactly where this call's enter found 2^32 or more: the server has a turn open or has
-/// announced one. The enter is undone then, and the pass has the word that was found.
+/// A painter's turn, which has looked at the stamp. `Busy` comes exactly where this call's enter found 2^32 or more: the
+/// server has a turn open or has announced one. The enter is undone then, and the pass has the word that was found.
 pub fn try_paint_turn<'a>(pass: &'a mut Pass, screen: &'a Screen) -> Result<PaintTurn<'a>, Busy>
     requires screen { pass.old.screen ≡ screen.now }
     requires idle { pass.old.client.mode ≡ Idle }
+    requires room { length (books_in pass.old.client.own) < pass.old.book_limit }
     ensures* refused { sem 𝓛 (RestsIfErr pass_of.the_row pass.entry (λ t. t.pass.ghost_name) result (IsTurned pass.old result)) }
     ensures same_reference { IfOk result (λ turn. turn.pass.ghost_name ≡ pass.entry.ghost_name) }
-    ensures open { IfOk result (λ turn. (turn.screen.now ≡ screen.now) × (turn.pass.now ≡ let_in pass.old)) }
+    ensures open { IfOk result (λ turn. (turn.screen.now ≡ screen.now) × (turn.pass.now ≡ let_in pass.old turn.stamp)) }
+    ensures seen { IfOk result (λ turn. (pass.old.client.seen ≤ turn.stamp) × Sees (let_in pass.old turn.stamp).client) }
     ensures found { IfErr result (λ busy. 2 ^ 32 ≤ busy.found) }
 {
-    get_in(screen, pass)?;
-    Ok(PaintTurn { screen, pass })
+    let stamp = get_in(screen, pass)?;
+    Ok(PaintTurn {
+        screen,
+        pass,
+        stamp,
+    })
 }
 
 impl<'a> PaintTurn<'a> {
-    /// Ends the turn.
-    pub fn end(self)
-        requires { IsOpen self }
-        ensures { self.exit.1.0.now ≡ record self.entry.pass.now { client = after_retreat self.entry.pass.now.client } }
+    /// How many server turns were closed when it began.
+    pub fn stamp(&self) -> u64
+        ensures { result ≡ self.now.stamp }
     {
-        let PaintTurn { screen, pass } = self;
-        screen.leave(pass);
+        self.stamp
     }
 
     /// The client's number.
@@ -83,6 +95,35 @@ impl<'a> PaintTurn<'a> {
         ensures { result.now ≡ self.now.screen.now }
     {
         self.screen
+    }
+
+    /// Looks at a table word, and answers its value, the same at each look of the turn. A revision is at least the kept one.
+    pub fn look(&mut self, word: u64) -> u64
+        requires open { IsOpen self.old }
+        requires table { IsTableWord word }
+        ensures same { SameTurn self.old self.new }
+        ensures open { IsOpen self.new }
+        ensures pass { client_in self.new ≡ after_look (client_in self.old) word result }
+        ensures present { Sees (client_in self.new) }
+        ensures value { (value : ℕ) → look_of (looked_in (client_in self.old).mode) word ≡ Some value → result ≡ value }
+        ensures revision { (slot : ℕ) (clip : KeptClip) → slot < 33 → word ≡ row_word slot + 1 → kept (client_in self.old) slot ≡ Some clip → clip.revision ≤ result }
+    {
+        self.screen.look(self.pass, word)
+    }
+
+    /// Closes the turn with its entry, which goes into the book, and with the sheet of the picture.
+    pub fn end<P: Picture>(self, entry: BookEntry, picture: &P)
+        requires open { IsOpen self }
+        requires entry { IsEntryOf self.pass.now.client entry }
+        requires room { length (books_in self.pass.now.client.own) < self.pass.now.book_limit }
+        ensures { self.exit.1.0.now ≡ record self.entry.pass.now { client = after_leave self.entry.pass.now.client (paint_call self.entry.pass.now.client entry (P.sheet picture.now)) } }
+    {
+        let PaintTurn {
+            screen,
+            pass,
+            stamp: _,
+        } = self;
+        screen.leave(pass, entry, picture);
     }
 }
 
@@ -129,11 +170,34 @@ pub fn try_server_turn<'a>(head: &'a mut Head, screen: &'a Screen) -> Result<Ser
 }
 
 impl<'a> ServerTurn<'a> {
-    /// Ends the turn with its entry, which has the next number. Its client sits with the head.
+    /// Reads a word other than the gate. A table word is the present one.
+    pub fn read(&mut self, word: u64) -> u64
+        requires open { IsOpenServer self.old }
+        requires word { IsTableWord word }
+        ensures same { SameServerTurn self.old self.new }
+        ensures head { self.new.head.now ≡ record self.old.head.now { server = after_read self.old.head.now.server word result } }
+        ensures present { IsTableWord word → result ≡ slice_index self.old.head.now.server.present word }
+    {
+        self.screen.read(self.head, word)
+    }
+
+    /// Writes a word other than the gate.
+    pub fn write(&mut self, word: u64, value: u64)
+        requires open { IsOpenServer self.old }
+        requires word { IsTableWord word }
+        ensures same { SameServerTurn self.old self.new }
+        ensures head { self.new.head.now ≡ record self.old.head.now { server = after_write self.old.head.now.server word value } }
+    {
+        self.screen.write(self.head, word, value);
+    }
+
+    /// Ends the turn with its entry, which has the next number. Its client sits with the head. The present table has the next
+    /// number too, and follows the last closed one.
     pub fn end(self, entry: &JournalEntry)
         requires open { IsOpenServer self }
         requires next { entry.now.number ≡ length self.head.now.server.closed + 1 }
         requires sits { 1 ≤ total (is_client entry.now.client) self.head.now.sitting }
+        requires table { IsNextTable self.head.now.server }
         ensures { self.exit.1.0.now ≡ record self.entry.head.now { server = after_give self.entry.head.now.server entry.now; sitting = map (with_step entry.now) self.entry.head.now.sitting } }
     {
         let ServerTurn { screen, head } = self;

@@ -3,21 +3,24 @@ use Rattle.std.proofs.Common.{◌≡◌, ℕ, ◌+◌, ◌-◌, ◌%◌, ◌^◌
 use Rattle.std.proofs.lemmas.List.{get_or-set_other, get_or-set_same}
 use Rattle.std.proofs.lemmas.Bool.{false≢true}
 use Rattle.std.proofs.lemmas.Bool.Decides.{nat_tests}
-use mathlib.Core.Option.{some, none}
+use mathlib.Core.Option.{some, none, some-ne-none}
 use lib.ListN.{get_elem?}
 use Rattle.atomic_table.specs.Table.{Me, step, Allows}
+use Rattle.qws_base.specs.Sides.{Sides}
 use Rattle.qws_base.specs.Scenes.{Setting}
 use Rattle.fb_words.specs.declared.known.Mode.{Mode}
 use Rattle.fb_words.specs.declared.known.Mode.TheVariants.{Idle, Refused, Reading}
 use Rattle.fb_words.specs.declared.known.ServerMode.{ServerMode}
 use Rattle.fb_words.specs.declared.known.ServerMode.TheVariants.{Resting, Closing, Writing}
 use Rattle.fb_words.specs.declared.known.Client.{Client}
+use Rattle.fb_words.specs.declared.known.Server.{Server}
 use Rattle.fb_words.specs.declared.known.View.{View}
 use Rattle.fb_words.specs.Views.{total, busy, reading, busy_mode, reading_mode, shut, is_writing, steps_in, alone, only}
-use Rattle.fb_words.specs.Rule.{World, SeatOk, OrderOk, steps_of, Fits, Holds}
+use Rattle.fb_words.specs.Rule.{World, SeatOk, OrderOk, steps_of, TablesOk, ClipsOk, LooksOk, Fits, Holds}
 use Rattle.fb_words.specs.Steps.{after_enter, entered, after_retreat, retreated}
 use Rattle.fb_words.proofs.Places.{each_set}
 use Rattle.fb_words.proofs.Totals.{total_set, total_one}
+use Rattle.fb_words.proofs.Rows.{table_positive}
 use Rattle.fb_words.proofs.Spreads.{with_client, client_steps}
 
 -- the words but the gate are the same
@@ -31,37 +34,69 @@ gate_set words n = record { long = length-set words 0 n; same = λ i some. get_o
 pub gate_now : (key : Setting) (words : List ℕ) (w : World) (n : ℕ) → Fits key words w → get_or (set words 0 n) 0 0 ≡ n
 gate_now key words w n f = let long = f.setting.long in get_or-set_same words 0 n 0 (omega arith)
 
--- what the step leaves of a client part: its calls in their order, and its steps
-pub record StillOwn (closed : ℕ) (p q : Client) : Type 0 where
-  pub order : OrderOk closed q
-  pub steps : steps_in q.own ≡ steps_in p.own
+-- ---- parts that a step leaves as they were
 
-pub still : (closed : ℕ) (p q : Client) → q.own ≡ p.own → q.seen ≡ p.seen → OrderOk closed p → StillOwn closed p q
-still closed p q own seen ok = record {
+pub tables_same : (size : Sides) (words ws : List ℕ) (s : Server) → SameWords words ws → TablesOk size words s → TablesOk size ws s
+tables_same size words ws s same ok = record {
+  wide = ok.wide;
+  shown = λ i t. same.same i (table_positive i t) ∙ ok.shown i t;
+  long = ok.long;
+  first = ok.first;
+  last = ok.last;
+  well = ok.well;
+  next = ok.next;
+}
+
+pub looks_same : (words ws : List ℕ) (closed : ℕ) (m : Mode) → SameWords words ws → LooksOk words closed m → LooksOk ws closed m
+looks_same words ws closed Idle same ok = tt
+looks_same words ws closed Refused same ok = tt
+looks_same words ws closed (Reading stamp slot looked log) same ok = ((λ k l e. let t = ok.0 k l e in (t.0, same.same l.word (table_positive l.word t.0) ∙ t.1)), ok.1, ok.2)
+
+-- what is said of one client part, when p becomes q
+pub record Still (size : Sides) (ws : List ℕ) (s : Server) (p q : Client) : Type 0 where
+  pub number : q.number ≡ p.number
+  pub setting : q.setting ≡ p.setting
+  pub limit : q.step_limit ≡ p.step_limit
+  pub order : OrderOk (length s.closed) q
+  pub steps : steps_in q.own ≡ steps_in p.own
+  pub clips : ClipsOk size s p.number q
+  pub looks : LooksOk ws (length s.closed) q.mode
+
+-- where the calls and the clips are as before
+pub same_calls : (key : Setting) (words ws : List ℕ) (w : World) (p q : Client) → Fits key words w → get_elem? w.clients p.number ≡ some p
+    → q.number ≡ p.number → q.setting ≡ p.setting → q.step_limit ≡ p.step_limit → q.own ≡ p.own → q.seen ≡ p.seen → q.clips ≡ p.clips → LooksOk ws (length w.server.closed) q.mode → Still key.size ws w.server p q
+same_calls key words ws w p q f at number setting limit own seen clips looks = let ok = f.order p.number p at in record {
+  number = number;
+  setting = setting;
+  limit = limit;
   order = record {
     rises = λ j k a b lt e d. ok.rises j k a b lt (subst (λ l. get_elem? l j ≡ some a) own e) (subst (λ l. get_elem? l k ≡ some b) own d);
     seen_own = λ k a e. rw seen (ok.seen_own k a (subst (λ l. get_elem? l k ≡ some a) own e));
     seen_within = rw seen ok.seen_within;
   };
   steps = ap steps_in own;
+  clips = λ k clip t e. f.clips p.number p at k clip t (subst (λ l. get_elem? l k ≡ some clip) clips e);
+  looks = looks;
 }
 
 -- one client part changes, and the gate with it
 pub fits_client : (key : Setting) (words ws : List ℕ) (w : World) (p q : Client) → Fits key words w → get_elem? w.clients p.number ≡ some p → SameWords words ws
-    → (q.number ≡ p.number) × (q.setting ≡ p.setting) × (q.step_limit ≡ p.step_limit)
-    → get_or ws 0 0 + busy p ≡ get_or words 0 0 + busy q → (is_writing w.server.mode ≡ true → reading q ≤ reading p) → StillOwn (length w.server.closed) p q → Fits key ws (with_client w q)
-fits_client key words ws w p q f at same parts gate apart own = let s = w.server in let cs = w.clients in
-    let P : ℕ → Type 0 = λ n. Fits key ws record w { clients = set cs n q } in subst P (sym parts.0) record {
+    → get_or ws 0 0 + busy p ≡ get_or words 0 0 + busy q → (is_writing w.server.mode ≡ true → reading q ≤ reading p) → Still key.size ws w.server p q → Fits key ws (with_client w q)
+fits_client key words ws w p q f at same gate apart own = let s = w.server in let cs = w.clients in
+    let P : ℕ → Type 0 = λ n. Fits key ws record w { clients = set cs n q } in subst P (sym own.number) record {
       setting = record { long = same.long ∙ f.setting.long; screen = f.setting.screen; colour = f.setting.colour; server = f.setting.server };
       gate = let sum = total_set busy cs p.number p q at in let is = f.gate in omega arith;
       apart = λ writing. let none = f.apart writing in let less = apart writing in let sum = total_set reading cs p.number p q at in omega arith;
       as_many = f.as_many ∙ sym (length-set cs p.number q);
       few = rw (length-set cs p.number q) f.few;
       seats = each_set (SeatOk key s) cs p.number q (λ c r _ e. f.seats c r e)
-          (let ok = f.seats p.number p at in record { setting_is = parts.1 ∙ ok.setting_is; number_is = parts.0 ∙ ok.number_is; limit_is = ok.limit_is ∙ ap some (sym parts.2) });
+          (let ok = f.seats p.number p at in record { setting_is = own.setting ∙ ok.setting_is; number_is = own.number ∙ ok.number_is; limit_is = ok.limit_is ∙ ap some (sym own.limit) });
       order = each_set (λ c r. OrderOk (length s.closed) r) cs p.number q (λ c r _ e. f.order c r e) own.order;
       own_steps = each_set (λ c r. steps_in r.own ≡ steps_of c 0 s.closed) cs p.number q (λ c r _ e. f.own_steps c r e) (own.steps ∙ f.own_steps p.number p at);
       named = f.named;
+      tables = tables_same key.size words ws s same f.tables;
+      clips = each_set (ClipsOk key.size s) cs p.number q (λ c r _ e. f.clips c r e) own.clips;
+      looks = each_set (λ c r. LooksOk ws (length s.closed) r.mode) cs p.number q (λ c r _ e. looks_same words ws (length s.closed) r.mode same (f.looks c r e)) own.looks;
     }
 
 few_busy : (l : List Client) → total busy l ≤ length l
@@ -92,15 +127,15 @@ module _ (key : Setting) (words : List ℕ) (w : World) (p : Client) (f : Fits k
   abbrev n : ℕ
   n = get_or words 0 0
 
-  enters_as : (m : Mode) (t : List ℕ) → busy_mode m ≡ 1 → (is_writing w.server.mode ≡ true → reading_mode m ≡ 0) → Fits key (set words 0 (n + 1)) (with_client w record p { mode = m; turned = t })
-  enters_as m t one apart = let q : Client = record p { mode = m; turned = t } in
-      fits_client key words (set words 0 (n + 1)) w p q f at (gate_set words (n + 1)) (refl, refl, refl)
+  enters_as : (m : Mode) (t : List ℕ) → busy_mode m ≡ 1 → (is_writing w.server.mode ≡ true → reading_mode m ≡ 0) → LooksOk (set words 0 (n + 1)) (length w.server.closed) m → Fits key (set words 0 (n + 1)) (with_client w record p { mode = m; turned = t })
+  enters_as m t one apart looks = let q : Client = record p { mode = m; turned = t } in
+      fits_client key words (set words 0 (n + 1)) w p q f at (gate_set words (n + 1))
       (let z : busy_mode p.mode ≡ 0 = ap busy_mode idle in let now = gate_now key words w (n + 1) f in omega arith) (λ writing. let z = apart writing in omega arith)
-      (still (length w.server.closed) p q refl refl (f.order p.number p at))
+      (same_calls key words (set words 0 (n + 1)) w p q f at refl refl refl refl refl refl looks)
 
   enters_fit : (b : Bool) → nat_lt n 4294967296 ≡ b → Fits key (set words 0 (n + 1)) (with_client w record p { mode = (if b then Reading None None [] [] else Refused); turned = (if b then p.turned else p.turned ++ n ∷ []) })
-  enters_fit true low = enters_as (Reading None None [] []) p.turned refl (λ writing. absurd (low_is_open w.server.mode n (total busy w.clients) f.gate (grind (arith, nat_tests)) writing))
-  enters_fit false low = enters_as Refused (p.turned ++ n ∷ []) refl (λ writing. refl)
+  enters_fit true low = enters_as (Reading None None [] []) p.turned refl (λ writing. absurd (low_is_open w.server.mode n (total busy w.clients) f.gate (grind (arith, nat_tests)) writing)) ((λ k l e. absurd (some-ne-none l (sym e))), tt, tt)
+  enters_fit false low = enters_as Refused (p.turned ++ n ∷ []) refl (λ writing. refl) tt
 
 abbrev Mine : Type 0
 Mine = Me (Unit {0}) View
@@ -125,13 +160,8 @@ retreats key slots id me is is_busy = let P : Mine → Type 0 = λ m. Allows (Ho
     let less : (n + 18446744073709551615) % 18446744073709551616 ≡ n - 1 = omega arith in (
       after_retreat p,
       refl,
-      rw less (fits_client key words (set words 0 (n - 1)) w p (after_retreat p) f at (gate_set words (n - 1)) (refl, refl, refl)
+      rw less (fits_client key words (set words 0 (n - 1)) w p (after_retreat p) f at (gate_set words (n - 1))
           (let now = gate_now key words w (n - 1) f in omega arith) (λ _. zero-le)
-          (still (length w.server.closed) p (after_retreat p) refl refl (f.order p.number p at))),
+          (same_calls key words (set words 0 (n - 1)) w p (after_retreat p) f at refl refl refl refl refl refl tt)),
       refl,
     )))
-
-pub reads_busy : (m : Mode) → reading_mode m ≡ 1 → busy_mode m ≡ 1
-reads_busy Idle e = absurd (omega arith)
-reads_busy Refused e = absurd (omega arith)
-reads_busy (Reading stamp slot looked log) e = refl

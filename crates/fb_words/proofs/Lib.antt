@@ -1,7 +1,13 @@
 pub mod Places
 pub mod Totals
 pub mod Spreads
+pub mod Rows
 pub mod Sitting
 pub mod Gate
+pub mod Looking
 pub mod Serving
 pub mod Opening
+pub mod Carrying
+pub mod Law
+pub mod Standing
+pub mod Sessions

@@ -1,9 +1,9 @@
 -- A step of the head on the gate keeps the words and the world in step.
-use Rattle.std.proofs.Common.{◌≡◌, ℕ, zero, suc, ◌+◌, ◌-◌, ◌*◌, ◌%◌, ◌^◌, ◌<◌, ◌≤◌, ◌==◌, eq-eqb, ne_eqb, if◌then◌else◌, Bool, true, false, List, [], ◌∷◌, ◌++◌, ◌≢◌, map, length, get_or, set, length-append, append-nil, bit_or, sym, refl, ap, ◌∙◌, subst, arith}
+use Rattle.std.proofs.Common.{◌≡◌, ℕ, zero, suc, ◌+◌, ◌-◌, ◌*◌, ◌%◌, ◌^◌, ◌<◌, ◌≤◌, ◌==◌, eq-eqb, ne_eqb, if◌then◌else◌, Bool, true, false, List, [], ◌∷◌, ◌++◌, ◌≢◌, map, length, get_or, set, length-set, length-append, append-nil, bit_or, sym, refl, ap, ◌∙◌, subst, arith}
 use Rattle.std.specs.Int.{bit_at}
 use Rattle.std.proofs.lemmas.Nat.{or_disjoint}
 use Rattle.std.proofs.lemmas.Nat.Bits.{and_pow}
-use Rattle.std.proofs.lemmas.List.{length-map}
+use Rattle.std.proofs.lemmas.List.{length-map, get_or-set_other, get_or-set_same}
 use Rattle.std.proofs.lemmas.Bool.{false≢true}
 use Rattle.std.proofs.lemmas.Bool.Decides.{nat_tests}
 use mathlib.Core.Option.{some, none, some-injective}
@@ -11,9 +11,15 @@ use mathlib.Core.Logic.{dite}
 use native.Mathlib.Decide.{ℕ_discrete}
 use lib.ListN.{get_elem?}
 use Rattle.atomic_table.specs.Table.{step, keeps, Me, Allows}
-use Rattle.atomic_table.proofs.Lists.{at_map}
+use Rattle.atomic_table.proofs.Lists.{at_map, at_last, at_longer}
+use Rattle.qws_base.specs.Sides.{Sides}
 use Rattle.qws_base.specs.Scenes.{Setting}
+use Rattle.fb_words.specs.Tables.{IsTable, Follows}
+use Rattle.fb_words.specs.Clips.{IsClip}
+use Rattle.fb_words.specs.declared.known.KeptClip.{KeptClip}
 use Rattle.qws_base.specs.declared.journals.JournalEntry.{JournalEntry}
+use Rattle.region_table.specs.Numbers.{IsTableWord}
+use Rattle.fb_words.specs.declared.known.Item.TheVariants.{Pick, Put}
 use Rattle.fb_words.specs.declared.known.Mode.{Mode}
 use Rattle.fb_words.specs.declared.known.Mode.TheVariants.{Idle, Refused, Reading}
 use Rattle.fb_words.specs.declared.known.ServerMode.{ServerMode}
@@ -25,13 +31,14 @@ use Rattle.fb_words.specs.declared.known.Closed.{Closed}
 use Rattle.fb_words.specs.declared.known.Server.{Server}
 use Rattle.fb_words.specs.declared.known.View.{View}
 use Rattle.fb_words.specs.Views.{total, is_client, busy, reading, busy_mode, reading_mode, shut, is_writing, is_closing, steps_in, books_in, head_view, the_server, both_views, client_of, without}
-use Rattle.fb_words.specs.Rule.{World, clients_in, Spread, SeatOk, OrderOk, MayFollow, mark, step_call, steps_of, Fits, Holds}
-use Rattle.fb_words.specs.Steps.{after_announce, announced, after_settle, settled, after_withdraw, withdrew, after_give, closed_turn, own_step, stepped, with_step, given, told, AllSit, AllHere}
-use Rattle.fb_words.proofs.Places.{each_of}
+use Rattle.fb_words.specs.Rule.{World, clients_in, Spread, SeatOk, OrderOk, MayFollow, mark, step_call, steps_of, TablesOk, ClipsOk, LooksOk, Fits, Holds}
+use Rattle.fb_words.specs.Steps.{after_announce, announced, after_settle, settled, after_withdraw, withdrew, was_read, wrote, after_give, closed_turn, own_step, stepped, with_step, given, IsNextTable, told, AllSit, AllHere}
+use Rattle.fb_words.proofs.Places.{each_of, there}
 use Rattle.fb_words.proofs.Totals.{total_append, total_one, total_map, from_map, set_same}
+use Rattle.fb_words.proofs.Rows.{table_is, table_positive, table_below, clip_follows}
 use Rattle.fb_words.proofs.Spreads.{SitIn, server_steps, Moves, spread_set, place_within}
 use Rattle.fb_words.proofs.Sitting.{client_of_here}
-use Rattle.fb_words.proofs.Gate.{gate_set, gate_now, gate_small}
+use Rattle.fb_words.proofs.Gate.{gate_set, gate_now, gate_small, SameWords, tables_same, looks_same}
 
 -- what the rule says of the clients that sit with the head
 sits_well : (key : Setting) (words : List ℕ) (s : Server) (cs ps : List Client) → Fits key words record { server = s; clients = cs } → SitIn cs ps → AllSit s ps
@@ -64,9 +71,9 @@ no_reader (p ∷ ps) e = let r = no_reader ps (omega arith) in let one = less p.
     less (Reading stamp slot looked log) = omega arith
 
 -- the gate changes with the server's mode
-fits_mode : (key : Setting) (words : List ℕ) (s : Server) (cs : List Client) (m : ServerMode) (t : List ℕ) (n : ℕ) → Fits key words record { server = s; clients = cs }
+fits_mode : (key : Setting) (words : List ℕ) (s : Server) (cs : List Client) (m : ServerMode) (t : List ℕ) (n : ℕ) → Fits key words record { server = s; clients = cs } → is_writing s.mode ≡ false
     → n + shut s.mode ≡ get_or words 0 0 + shut m → (is_writing m ≡ true → total reading cs ≡ 0) → Fits key (set words 0 n) record { server = record s { mode = m; turned = t }; clients = cs }
-fits_mode key words s cs m t n f gate apart = let same = gate_set words n in record {
+fits_mode key words s cs m t n f idle gate apart = let same = gate_set words n in record {
   setting = record { long = same.long ∙ f.setting.long; screen = f.setting.screen; colour = f.setting.colour; server = f.setting.server };
   gate = let is = f.gate in gate_now key words record { server = s; clients = cs } n f ∙ (omega arith);
   apart = apart;
@@ -76,6 +83,9 @@ fits_mode key words s cs m t n f gate apart = let same = gate_set words n in rec
   order = f.order;
   own_steps = f.own_steps;
   named = f.named;
+  tables = let ok = tables_same key.size words (set words 0 n) s same f.tables in record { wide = ok.wide; shown = ok.shown; long = ok.long; first = ok.first; last = λ _. ok.last idle; well = ok.well; next = ok.next };
+  clips = f.clips;
+  looks = λ c p e. looks_same words (set words 0 n) (length s.closed) p.mode same (f.looks c p e);
 }
 
 -- ---- announce
@@ -95,7 +105,7 @@ announces key slots id s ps resting = server_steps key slots id s ps 0 (λ n. bi
     (λ words cs f sit _ _. let n : ℕ = get_or words 0 0 in let open_gate : shut s.mode ≡ 0 = ap shut resting in
     let small = gate_small key words record { server = s; clients = cs } f in let low : n < 4294967296 = omega arith in (
       after_announce s,
-      rw (sets_bit n low) (fits_mode key words s cs Closing s.turned (n + 4294967296) f (omega arith) (λ e. absurd (false≢true e))),
+      rw (sets_bit n low) (fits_mode key words s cs Closing s.turned (n + 4294967296) f (ap is_writing resting) (omega arith) (λ e. absurd (false≢true e))),
       (refl, low),
     ))
 
@@ -116,9 +126,9 @@ settles key slots id s ps closing idle = server_steps key slots id s ps 0 (λ n.
     go : (words : List ℕ) (cs : List Client) (f : Fits key words record { server = s; clients = cs }) (n : ℕ) → n ≡ get_or words 0 0 → (b : Bool) → (n == 4294967296) ≡ b
         → Fits key (set words 0 n) record { server = record s { mode = (if b then Writing else Closing); turned = (if b then s.turned else s.turned ++ n ∷ []) }; clients = cs }
     go words cs f n is true hit = let door : shut s.mode ≡ 4294967296 = ap shut closing in let found : n ≡ 4294967296 = grind (arith, nat_tests) in let g = f.gate in
-        fits_mode key words s cs Writing s.turned n f (omega arith) (λ _. no_reader cs (omega arith))
+        fits_mode key words s cs Writing s.turned n f (ap is_writing closing) (omega arith) (λ _. no_reader cs (omega arith))
     go words cs f n is false miss = let door : shut s.mode ≡ 4294967296 = ap shut closing in
-        fits_mode key words s cs Closing (s.turned ++ n ∷ []) n f (omega arith) (λ e. absurd (false≢true e))
+        fits_mode key words s cs Closing (s.turned ++ n ∷ []) n f (ap is_writing closing) (omega arith) (λ e. absurd (false≢true e))
 
 -- ---- withdraw
 
@@ -128,7 +138,7 @@ withdraws key slots id s ps closing = server_steps key slots id s ps 0 (λ n. (n
     (λ words cs f sit _ small. let n : ℕ = get_or words 0 0 in let fits : n < 18446744073709551616 = small in let g = f.gate in let door : shut s.mode ≡ 4294967296 = ap shut closing in
     let less : (n + (2 ^ 64 - 4294967296)) % 2 ^ 64 ≡ n - 4294967296 = omega arith in (
       after_withdraw s,
-      rw less (fits_mode key words s cs Resting s.turned (n - 4294967296) f (omega arith) (λ e. absurd (false≢true e))),
+      rw less (fits_mode key words s cs Resting s.turned (n - 4294967296) f (ap is_writing closing) (omega arith) (λ e. absurd (false≢true e))),
       refl,
     ))
 
@@ -198,21 +208,66 @@ given_steps s e c p next number ok = let t = closed_turn s e in by_number e p (�
     (λ not. let not_c : e.client ≢ c = (λ eq. not (number ∙ sym eq)) in
     ok ∙ sym (append-nil (steps_of c 0 s.closed)) ∙ ap (λ b. steps_of c 0 s.closed ++ (if b then step_call (0 + length s.closed + 1) t ∷ [] else [])) (sym (ne_eqb e.client c not_c)) ∙ sym (steps_of_more c 0 s.closed t))
 
-fits_give : (key : Setting) (words : List ℕ) (s : Server) (cs : List Client) (e : JournalEntry) (n : ℕ) → Fits key words record { server = s; clients = cs } → s.mode ≡ Writing → e.number ≡ length s.closed + 1
-    → n + 4294967296 ≡ get_or words 0 0 → e.client < length s.limits → Fits key (set words 0 n) record { server = after_give s e; clients = map (with_step e) cs }
-fits_give key words s cs e n f writing next gate inside = let same = gate_set words n in record {
-  setting = record { long = same.long ∙ f.setting.long; screen = f.setting.screen; colour = f.setting.colour; server = f.setting.server };
-  gate = let is = f.gate in let door : shut s.mode ≡ 4294967296 = ap shut writing in
-      let sum = total_map busy busy (with_step e) cs (λ p. ap busy_mode (same_mode e p)) in gate_now key words record { server = s; clients = cs } n f ∙ (omega arith);
-  apart = λ never. absurd (false≢true never);
-  as_many = f.as_many ∙ sym (length-map cs (with_step e));
-  few = rw (length-map cs (with_step e)) f.few;
-  seats = λ c q at. let r = from_map (with_step e) cs c q at in let ok = f.seats c r.0 r.1 in subst (SeatOk key (after_give s e) c) r.2
-      (by_number e r.0 (SeatOk key (after_give s e) c) (λ _. record { setting_is = ok.setting_is; number_is = ok.number_is; limit_is = ok.limit_is }) (λ _. record { setting_is = ok.setting_is; number_is = ok.number_is; limit_is = ok.limit_is }));
-  order = λ c q at. let r = from_map (with_step e) cs c q at in subst (OrderOk (length (after_give s e).closed)) r.2 (given_order s e r.0 next (f.order c r.0 r.1));
-  own_steps = λ c q at. let r = from_map (with_step e) cs c q at in subst (λ x. steps_in x.own ≡ steps_of c 0 (after_give s e).closed) r.2 (given_steps s e c r.0 next (f.seats c r.0 r.1).number_is (f.own_steps c r.0 r.1));
-  named = each_of (λ k t. t.client < length s.limits) s.closed (closed_turn s e) f.named inside;
+-- where no client reads, nothing is said of looked words
+pub quiet_looks : (words : List ℕ) (closed : ℕ) (m : Mode) → reading_mode m ≡ 0 → LooksOk words closed m
+quiet_looks words closed Idle quiet = tt
+quiet_looks words closed Refused quiet = tt
+quiet_looks words closed (Reading stamp slot looked log) quiet = absurd (omega arith)
+
+pub reading_one : (cs : List Client) (c : ℕ) (p : Client) → total reading cs ≡ 0 → get_elem? cs c ≡ some p → reading_mode p.mode ≡ 0
+reading_one cs c p none_reads e = let one = total_one reading cs c p e in omega arith
+
+given_tables : (size : Sides) (words ws : List ℕ) (s : Server) (e : JournalEntry) → SameWords words ws → IsTable size (length s.limits) (length s.closed + 1) s.present
+    → ((t : List ℕ) → get_elem? s.tables (length s.closed) ≡ some t → Follows t s.present) → TablesOk size words s → TablesOk size ws (after_give s e)
+given_tables size words ws s e same table follows ok = let n = length-append s.closed (closed_turn s e ∷ []) in let m = length-append s.tables (s.present ∷ []) in let long = ok.long in record {
+  wide = ok.wide;
+  shown = λ i t. same.same i (table_positive i t) ∙ ok.shown i t;
+  long = omega arith;
+  first = at_longer s.tables (s.present ∷ []) 0 _ ok.first;
+  last = λ _. at_last s.tables s.present (length (after_give s e).closed) (omega arith);
+  well = each_of (IsTable size (length s.limits)) s.tables s.present ok.well (subst (λ k. IsTable size (length s.limits) k s.present) (sym long) table);
+  next = λ k t u at_t at_u. each_of (λ j u. (k : ℕ) (t : List ℕ) → j ≡ k + 1 → get_elem? (s.tables ++ s.present ∷ []) k ≡ some t → Follows t u) s.tables s.present
+      (λ j u at_u k t eq at_t. each_of (λ k t. j ≡ k + 1 → Follows t u) s.tables s.present
+      (λ k t at_t eq. ok.next k t u at_t (subst (λ i. get_elem? s.tables i ≡ some u) eq at_u))
+      (λ eq. let w = place_within s.tables j u at_u in absurd (omega arith)) k t at_t eq)
+      (λ k t eq at_t. each_of (λ k t. length s.tables ≡ k + 1 → Follows t s.present) s.tables s.present
+      (λ k t at_t eq. follows t (subst (λ i. get_elem? s.tables i ≡ some t) (let z : k ≡ length s.closed = omega arith in z) at_t))
+      (λ eq. absurd (omega arith)) k t at_t eq)
+      (k + 1) u at_u k t refl at_t;
 }
+
+given_clips : (size : Sides) (words : List ℕ) (s : Server) (e : JournalEntry) (c : ℕ) (p : Client) → TablesOk size words s → ((t : List ℕ) → get_elem? s.tables (length s.closed) ≡ some t → Follows t s.present)
+    → ClipsOk size s c p → ClipsOk size (after_give s e) c (with_step e p)
+given_clips size words s e c p ok follows clips = by_number e p (ClipsOk size (after_give s e) c) (λ _. now) (λ _. now)
+  where
+    now : (k : ℕ) (clip : KeptClip) (t : List ℕ) → get_elem? p.clips k ≡ some clip → get_elem? (s.tables ++ s.present ∷ []) (length (s.closed ++ closed_turn s e ∷ [])) ≡ some t → IsClip size t c clip
+    now k clip t at at_t = let n = length-append s.closed (closed_turn s e ∷ []) in let long = ok.long in
+        let last_at : get_elem? (s.tables ++ s.present ∷ []) (length (s.closed ++ closed_turn s e ∷ [])) ≡ some s.present = at_last s.tables s.present (length (s.closed ++ closed_turn s e ∷ [])) (omega arith) in
+        let is : s.present ≡ t = some-injective s.present t (sym last_at ∙ at_t) in
+        let u = there s.tables (length s.closed) (omega arith) in
+        subst (λ x. IsClip size x c clip) is (clip_follows size c u.0 s.present clip (follows u.0 u.1) (clips k clip u.0 at u.1))
+
+fits_give : (key : Setting) (words : List ℕ) (s : Server) (cs : List Client) (e : JournalEntry) (n : ℕ) → Fits key words record { server = s; clients = cs } → s.mode ≡ Writing → e.number ≡ length s.closed + 1
+    → n + 4294967296 ≡ get_or words 0 0 → e.client < length s.limits → IsNextTable s → Fits key (set words 0 n) record { server = after_give s e; clients = map (with_step e) cs }
+fits_give key words s cs e n f writing next gate inside table = let same = gate_set words n in
+    let quiet = f.apart (ap is_writing writing) in
+    let here : IsTable key.size (length s.limits) (length s.closed + 1) s.present = subst (λ x. IsTable x.size (length s.limits) (length s.closed + 1) s.present) f.setting.server table.is_table in record {
+      setting = record { long = same.long ∙ f.setting.long; screen = f.setting.screen; colour = f.setting.colour; server = f.setting.server };
+      gate = let is = f.gate in let door : shut s.mode ≡ 4294967296 = ap shut writing in
+          let sum = total_map busy busy (with_step e) cs (λ p. ap busy_mode (same_mode e p)) in gate_now key words record { server = s; clients = cs } n f ∙ (omega arith);
+      apart = λ never. absurd (false≢true never);
+      as_many = f.as_many ∙ sym (length-map cs (with_step e));
+      few = rw (length-map cs (with_step e)) f.few;
+      seats = λ c q at. let r = from_map (with_step e) cs c q at in let ok = f.seats c r.0 r.1 in subst (SeatOk key (after_give s e) c) r.2
+          (by_number e r.0 (SeatOk key (after_give s e) c) (λ _. record { setting_is = ok.setting_is; number_is = ok.number_is; limit_is = ok.limit_is }) (λ _. record { setting_is = ok.setting_is; number_is = ok.number_is; limit_is = ok.limit_is }));
+      order = λ c q at. let r = from_map (with_step e) cs c q at in subst (OrderOk (length (after_give s e).closed)) r.2 (given_order s e r.0 next (f.order c r.0 r.1));
+      own_steps = λ c q at. let r = from_map (with_step e) cs c q at in subst (λ x. steps_in x.own ≡ steps_of c 0 (after_give s e).closed) r.2 (given_steps s e c r.0 next (f.seats c r.0 r.1).number_is (f.own_steps c r.0 r.1));
+      named = each_of (λ k t. t.client < length s.limits) s.closed (closed_turn s e) f.named inside;
+      tables = given_tables key.size words (set words 0 n) s e same here table.follows f.tables;
+      clips = λ c q at. let r = from_map (with_step e) cs c q at in subst (ClipsOk key.size (after_give s e) c) r.2 (given_clips key.size words s e c r.0 f.tables table.follows (f.clips c r.0 r.1));
+      looks = λ c q at. let r = from_map (with_step e) cs c q at in subst (λ x. LooksOk (set words 0 n) (length (after_give s e).closed) x.mode) r.2
+          (quiet_looks (set words 0 n) (length (after_give s e).closed) (with_step e r.0).mode (ap reading_mode (same_mode e r.0) ∙ reading_one cs c r.0 quiet r.1));
+    }
 
 gives_moves : (s : Server) (ps cs : List Client) (e : JournalEntry) → SitIn cs ps → 1 ≤ clients_in e.client (head_view s ps)
     → Moves (head_view s ps) (head_view (after_give s e) (map (with_step e) ps)) record { server = s; clients = cs } record { server = after_give s e; clients = map (with_step e) cs }
@@ -229,9 +284,9 @@ gives_moves s ps cs e sit here = record {
       at_map (with_step e) cs p.number p at ∙ ap some (by_number e p (λ q. q ≡ p) (λ eq. absurd (not eq)) (λ _. refl));
 }
 
-gives : (key : Setting) (slots id : ℕ) (s : Server) (ps : List Client) (e : JournalEntry) → s.mode ≡ Writing → e.number ≡ length s.closed + 1 → 1 ≤ clients_in e.client (head_view s ps)
+gives : (key : Setting) (slots id : ℕ) (s : Server) (ps : List Client) (e : JournalEntry) → s.mode ≡ Writing → e.number ≡ length s.closed + 1 → 1 ≤ clients_in e.client (head_view s ps) → IsNextTable s
     → Allows (Holds key) slots id (head_view s ps, []) 0 (λ n. (n + (2 ^ 64 - 4294967296)) % 2 ^ 64) (given e (step slots 0 4294967296 0 none) (head_view s ps, []))
-gives key slots id s ps e writing next here st holds _ at small =
+gives key slots id s ps e writing next here table st holds _ at small =
     let w = holds.world in let v = head_view s ps in let cs = w.clients in
     let is : s ≡ w.server = holds.spread.server_is id v at in
     let same : w ≡ record { server = s; clients = cs } = ap (λ x. let y : World = record { server = x; clients = cs } in y) (sym is) in
@@ -249,10 +304,54 @@ gives key slots id s ps e writing next here st holds _ at small =
       record {
         world = w';
         spread = spread_set st.views record { server = s; clients = cs } w' id v (head_view (after_give s e) (map (with_step e) ps)) (subst (λ x. Spread st.views x) same holds.spread) at (gives_moves s ps cs e (holds.spread.client_is id v at) here);
-        fits = rw less (fits_give key st.words s cs e (n - 4294967296) f writing next (omega arith) inside);
+        fits = rw less (fits_give key st.words s cs e (n - 4294967296) f writing next (omega arith) inside table);
       },
       refl,
     )
+
+-- ---- read and write, of table words
+
+fits_table : (key : Setting) (words : List ℕ) (s : Server) (cs : List Client) (i v : ℕ) → IsTableWord i → s.mode ≡ Writing → Fits key words record { server = s; clients = cs }
+    → Fits key (set words i v) record { server = record s { present = set s.present i v }; clients = cs }
+fits_table key words s cs i v t writing f = let old = f.tables in let quiet = f.apart (ap is_writing writing) in let lo = table_positive i t in let hi = table_below i t in record {
+  setting = record { long = length-set words i v ∙ f.setting.long; screen = f.setting.screen; colour = f.setting.colour; server = f.setting.server };
+  gate = get_or-set_other words i 0 v 0 (λ eq. absurd (omega arith)) ∙ f.gate;
+  apart = f.apart;
+  as_many = f.as_many;
+  few = f.few;
+  seats = λ c p e. let ok = f.seats c p e in record { setting_is = ok.setting_is; number_is = ok.number_is; limit_is = ok.limit_is };
+  order = f.order;
+  own_steps = f.own_steps;
+  named = f.named;
+  tables = record {
+    wide = length-set s.present i v ∙ old.wide;
+    shown = λ j t'. dite (ℕ_discrete j i)
+        (λ eq. rw eq (let w = f.setting.long in let z = old.wide in get_or-set_same words i v 0 (omega arith) ∙ sym (get_or-set_same s.present i v 0 (omega arith))))
+        (λ ne. get_or-set_other words i j v 0 ne ∙ old.shown j t' ∙ sym (get_or-set_other s.present i j v 0 ne));
+    long = old.long;
+    first = old.first;
+    last = λ no. absurd (false≢true (sym no ∙ ap is_writing writing));
+    well = old.well;
+    next = old.next;
+  };
+  clips = f.clips;
+  looks = λ c p e. quiet_looks (set words i v) (length s.closed) p.mode (reading_one cs c p quiet e);
+}
+
+reads : (key : Setting) (slots id : ℕ) (s : Server) (ps : List Client) (i : ℕ) → IsTableWord i → s.mode ≡ Writing
+    → Allows (Holds key) slots id (head_view s ps, []) i (λ n. n) (was_read (step slots i 0 0 none) (head_view s ps, []))
+reads key slots id s ps i t writing = server_steps key slots id s ps i (λ n. n) (was_read (step slots i 0 0 none) (head_view s ps, []))
+    (λ words cs f sit _ _. let n : ℕ = get_or words i 0 in (
+      s,
+      subst (λ x. Fits key x record { server = s; clients = cs }) (sym (set_same words i)) f,
+      (ap (λ b. let r : Server = record s { log = (if b then s.log else s.log ++ Pick i n ∷ []) } in let y : Me (Unit {0}) View = (head_view r ps, []) in y) (sym (table_is i t)), λ _. f.tables.shown i t),
+    ))
+
+writes : (key : Setting) (slots id : ℕ) (s : Server) (ps : List Client) (i v : ℕ) → IsTableWord i → s.mode ≡ Writing
+    → Allows (Holds key) slots id (head_view s ps, []) i (λ _. v) (λ _. wrote (step slots i v 0 none) (head_view s ps, []) v)
+writes key slots id s ps i v t writing = server_steps key slots id s ps i (λ _. v) (λ _. wrote (step slots i v 0 none) (head_view s ps, []) v)
+    (λ words cs f sit _ _. let r : Server = record s { present = set s.present i v } in
+    (r, fits_table key words s cs i v t writing f, ap (λ b. let r : Server = record s { present = (if b then set s.present i v else s.present); log = (if b then s.log else s.log ++ Put i v ∷ []) } in let y : Me (Unit {0}) View = (head_view r ps, []) in y) (sym (table_is i t))))
 
 -- ---- the same for a seat that is known to hold the server part
 
@@ -278,10 +377,18 @@ withdraws_seat key slots id me is closing = let P : Mine → Type 0 = λ m. Allo
 pub tells_seat : (key : Setting) (slots id : ℕ) (me : Mine) → IsHead me → Allows (Holds key) slots id me 0 (λ n. n) (told (step slots 0 0 0 none) me)
 tells_seat key slots id me is = let P : Mine → Type 0 = λ m. Allows (Holds key) slots id m 0 (λ n. n) (told (step slots 0 0 0 none) m) in subst P (sym is) (tells key slots id (the_server me.0) me.0.clients)
 
-pub gives_seat : (key : Setting) (slots id : ℕ) (me : Mine) (e : JournalEntry) → IsHead me → (the_server me.0).mode ≡ Writing → e.number ≡ length (the_server me.0).closed + 1 → 1 ≤ total (is_client e.client) me.0.clients
+pub gives_seat : (key : Setting) (slots id : ℕ) (me : Mine) (e : JournalEntry) → IsHead me → (the_server me.0).mode ≡ Writing → e.number ≡ length (the_server me.0).closed + 1 → 1 ≤ total (is_client e.client) me.0.clients → IsNextTable (the_server me.0)
     → Allows (Holds key) slots id me 0 (λ n. (n + (2 ^ 64 - 4294967296)) % 2 ^ 64) (given e (step slots 0 4294967296 0 none) me)
-gives_seat key slots id me e is writing next here = let P : Mine → Type 0 = λ m. Allows (Holds key) slots id m 0 (λ n. (n + (2 ^ 64 - 4294967296)) % 2 ^ 64) (given e (step slots 0 4294967296 0 none) m) in
-    subst P (sym is) (gives key slots id (the_server me.0) me.0.clients e writing next here)
+gives_seat key slots id me e is writing next here table = let P : Mine → Type 0 = λ m. Allows (Holds key) slots id m 0 (λ n. (n + (2 ^ 64 - 4294967296)) % 2 ^ 64) (given e (step slots 0 4294967296 0 none) m) in
+    subst P (sym is) (gives key slots id (the_server me.0) me.0.clients e writing next here table)
+
+pub reads_seat : (key : Setting) (slots id : ℕ) (me : Mine) (i : ℕ) → IsHead me → (the_server me.0).mode ≡ Writing → IsTableWord i → Allows (Holds key) slots id me i (λ n. n) (was_read (step slots i 0 0 none) me)
+reads_seat key slots id me i is writing t = let P : Mine → Type 0 = λ m. Allows (Holds key) slots id m i (λ n. n) (was_read (step slots i 0 0 none) m) in
+    subst P (sym is) (reads key slots id (the_server me.0) me.0.clients i t writing)
+
+pub writes_seat : (key : Setting) (slots id : ℕ) (me : Mine) (i v : ℕ) → IsHead me → (the_server me.0).mode ≡ Writing → IsTableWord i → Allows (Holds key) slots id me i (λ _. v) (λ _. wrote (step slots i v 0 none) me v)
+writes_seat key slots id me i v is writing t = let P : Mine → Type 0 = λ m. Allows (Holds key) slots id m i (λ _. v) (λ _. wrote (step slots i v 0 none) m v) in
+    subst P (sym is) (writes key slots id (the_server me.0) me.0.clients i v t writing)
 
 -- ---- what a head keeps
 

@@ -9,10 +9,12 @@ use Rattle.fb_words.specs.declared.known.Client.{Client}
 use Rattle.fb_words.specs.declared.known.Server.{Server}
 use Rattle.fb_words.specs.declared.known.Closed.{Closed}
 use Rattle.fb_words.specs.declared.known.View.{View}
+use Rattle.qws_base.specs.Sides.{Sides}
 use Rattle.qws_base.specs.Scenes.{Setting}
+use Rattle.fb_words.specs.Tables.{IsTable}
 use Rattle.qws_base.specs.declared.journals.BookEntry.{BookEntry}
 use Rattle.fb_words.specs.Views.{total, is_client, alone, busy, reading, only, head_view, without, client_of, nothing, both_views, the_server, steps_in, books_in}
-use Rattle.fb_words.specs.Rule.{World, clients_in, a_server, servers_in, IsServer, Spread, SeatOk, OrderOk, step_call, steps_of, Fits, Holds}
+use Rattle.fb_words.specs.Rule.{World, clients_in, a_server, servers_in, IsServer, Spread, SeatOk, OrderOk, step_call, steps_of, ClipsOk, LooksOk, Fits, Holds}
 use Rattle.fb_words.specs.Steps.{fresh, with_limit}
 use Rattle.fb_words.proofs.Totals.{total_set, total_snoc, total_append, total_two}
 use Rattle.fb_words.proofs.Places.{each_of}
@@ -138,6 +140,19 @@ none_yet c n [] away = refl
 none_yet c n (t ∷ ts) away = let r = none_yet c (n + 1) ts (λ k u e. away (suc k) u e) in
     ap (λ b. if b then step_call (n + 1) t ∷ steps_of c (n + 1) ts else steps_of c (n + 1) ts) (ne_eqb t.client c (away 0 t refl)) ∙ r
 
+more_admitted : (size : Sides) (n m stamp : ℕ) (t : List ℕ) → n ≤ m → IsTable size n stamp t → IsTable size m stamp t
+more_admitted size n m stamp t le ok = record {
+  stamp_is = ok.stamp_is;
+  revisions = ok.revisions;
+  few = ok.few;
+  inside = ok.inside;
+  apart = ok.apart;
+  owners = λ s lt. let o = ok.owners s lt in omega arith;
+  unowned = ok.unowned;
+  origins = ok.origins;
+  cursor = ok.cursor;
+}
+
 -- Admission: the world gains a client
 admit_fits : (key : Setting) (words : List ℕ) (s : Server) (cs : List Client) (limit : ℕ) → Fits key words record { server = s; clients = cs } → length s.limits < 16
     → Fits key words record { server = with_limit s limit; clients = cs ++ fresh s.setting (length s.limits) limit ∷ [] }
@@ -155,6 +170,9 @@ admit_fits key words s cs limit f room = let q = fresh s.setting (length s.limit
       own_steps = each_of (λ c p. steps_in p.own ≡ steps_of c 0 s.closed) cs q f.own_steps
           (sym (none_yet (length cs) 0 s.closed (λ k t e. let n = f.named k t e in (λ eq. absurd (omega arith)))));
       named = λ k t e. let n = f.named k t e in omega arith;
+      tables = let ok = f.tables in record { wide = ok.wide; shown = ok.shown; long = ok.long; first = ok.first; last = ok.last; well = λ e t at. more_admitted key.size (length s.limits) (length (s.limits ++ limit ∷ [])) e t (omega arith) (ok.well e t at); next = ok.next };
+      clips = each_of (ClipsOk key.size (with_limit s limit)) cs q f.clips (λ k clip t e at. absurd (some-ne-none clip (sym e)));
+      looks = each_of (λ c p. LooksOk words (length s.closed) p.mode) cs q f.looks tt;
     }
 
 -- a new client's seat leaves the head's

@@ -1,20 +1,25 @@
 -- The rule of the shared words: the views share out one world, and the words fit it.
-use Rattle.std.specs.Prelude.{◌≡◌, ℕ, ◌+◌, ◌<◌, ◌≤◌, ◌==◌, nat_lt, if◌then◌else◌, true, List, [], ◌∷◌, length, slice_index, Option, Some, None}
+use Rattle.std.specs.Prelude.{◌≡◌, ℕ, ◌+◌, ◌<◌, ◌≤◌, ◌==◌, nat_lt, if◌then◌else◌, true, false, List, [], ◌∷◌, length, slice_index, Option, Some, None, ⊤}
 use mathlib.Core.Option.{some}
 use lib.ListN.{get_elem?}
 use Rattle.atomic_table.specs.Table.{State}
-use Rattle.qws_base.specs.Sides.{IsScreen}
+use Rattle.qws_base.specs.Sides.{Sides, IsScreen}
 use Rattle.qws_base.specs.Points.{pixel_count}
 use Rattle.qws_base.specs.Colours.{IsSceneColour}
 use Rattle.qws_base.specs.Scenes.{Setting}
+use Rattle.region_table.specs.Numbers.{IsTableWord}
 use Rattle.fb_words.specs.declared.known.StepCall.{StepCall}
+use Rattle.fb_words.specs.declared.known.KeptClip.{KeptClip}
+use Rattle.fb_words.specs.declared.known.Mode.{Mode}
+use Rattle.fb_words.specs.declared.known.Mode.TheVariants.{Idle, Refused, Reading}
 use Rattle.fb_words.specs.declared.known.Call.{Call}
 use Rattle.fb_words.specs.declared.known.Call.TheVariants.{Step, Paint}
 use Rattle.fb_words.specs.declared.known.Client.{Client}
 use Rattle.fb_words.specs.declared.known.Closed.{Closed}
 use Rattle.fb_words.specs.declared.known.Server.{Server}
 use Rattle.fb_words.specs.declared.known.View.{View}
-use Rattle.fb_words.specs.Tables.{first_pixel}
+use Rattle.fb_words.specs.Tables.{first_pixel, opening_table, IsTable, Follows}
+use Rattle.fb_words.specs.Clips.{IsClip, LooksTrue}
 use Rattle.fb_words.specs.Views.{total, is_client, busy, reading, shut, is_writing, steps_in, opening_server}
 
 -- all parts together, wherever they sit: client c stands at place c
@@ -84,6 +89,34 @@ abbrev pub steps_of : ℕ → ℕ → List Closed → List StepCall
 steps_of c n [] = []
 steps_of c n (t ∷ ts) = if t.client == c then step_call (n + 1) t ∷ steps_of c (n + 1) ts else steps_of c (n + 1) ts
 
+-- closed tables, and the table words: those of the last closed table, or in a server turn its present ones
+pub record TablesOk (size : Sides) (words : List ℕ) (s : Server) : Type 0 where
+  pub wide : length s.present ≡ first_pixel
+  pub shown : (i : ℕ) → IsTableWord i → slice_index words i ≡ slice_index s.present i
+  pub long : length s.tables ≡ length s.closed + 1
+  pub first : get_elem? s.tables 0 ≡ some opening_table
+  pub last : is_writing s.mode ≡ false → get_elem? s.tables (length s.closed) ≡ some s.present
+  pub well : (e : ℕ) (t : List ℕ) → get_elem? s.tables e ≡ some t → IsTable size (length s.limits) e t
+  pub next : (e : ℕ) (t u : List ℕ) → get_elem? s.tables e ≡ some t → get_elem? s.tables (e + 1) ≡ some u → Follows t u
+
+-- kept clips
+abbrev pub ClipsOk : Sides → Server → ℕ → Client → Type 0
+ClipsOk size s c p = (k : ℕ) (clip : KeptClip) (t : List ℕ) → get_elem? p.clips k ≡ some clip → get_elem? s.tables (length s.closed) ≡ some t → IsClip size t c clip
+
+-- looked words: they are the present table words, and the looked stamp is the number of closed server turns
+abbrev pub IsStamp : ℕ → Option ℕ → Type 0
+IsStamp closed (Some e) = e ≡ closed
+IsStamp closed None = ⊤
+
+abbrev pub IsSlot : Option ℕ → Type 0
+IsSlot (Some s) = s < 33
+IsSlot None = ⊤
+
+abbrev pub LooksOk : List ℕ → ℕ → Mode → Type 0
+LooksOk words closed Idle = ⊤
+LooksOk words closed Refused = ⊤
+LooksOk words closed (Reading stamp slot looked log) = LooksTrue words looked × IsStamp closed stamp × IsSlot slot
+
 -- the words fit the world
 pub record Fits (key : Setting) (words : List ℕ) (w : World) : Type 0 where
   -- the setting
@@ -101,6 +134,12 @@ pub record Fits (key : Setting) (words : List ℕ) (w : World) : Type 0 where
   -- own steps
   pub own_steps : (c : ℕ) (p : Client) → get_elem? w.clients c ≡ some p → steps_in p.own ≡ steps_of c 0 w.server.closed
   pub named : (k : ℕ) (t : Closed) → get_elem? w.server.closed k ≡ some t → t.client < length w.server.limits
+  -- closed tables
+  pub tables : TablesOk key.size words w.server
+  -- kept clips
+  pub clips : (c : ℕ) (p : Client) → get_elem? w.clients c ≡ some p → ClipsOk key.size w.server c p
+  -- looked words
+  pub looks : (c : ℕ) (p : Client) → get_elem? w.clients c ≡ some p → LooksOk words (length w.server.closed) p.mode
 
 pub record Holds (key : Setting) (s : State (Unit {0}) View) : Type 0 where
   pub world : World

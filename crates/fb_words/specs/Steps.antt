@@ -1,21 +1,31 @@
 -- What each step tells its seat, and what it changes there.
-use Rattle.std.specs.Prelude.{◌≡◌, ℕ, ◌<◌, ◌≤◌, ◌==◌, nat_lt, if◌then◌else◌, List, [], ◌∷◌, ◌++◌, map, length, None}
+use Rattle.std.specs.Prelude.{◌≡◌, ℕ, ◌<◌, ◌≤◌, ◌==◌, nat_lt, if◌then◌else◌, List, [], ◌∷◌, ◌++◌, map, length, None, ◌+◌, Option, Some, pos, slice_index, slice_set}
 use mathlib.Core.Option.{some}
 use lib.ListN.{get_elem?}
 use Rattle.atomic_table.specs.Table.{Me, Step}
 use Rattle.qws_base.specs.declared.commands.Command.TheVariants.{Take}
 use Rattle.qws_base.specs.declared.replies.Reply.TheVariants.{Done}
+use Rattle.qws_base.specs.declared.replies.PaintReply.TheVariants.{Gone}
 use Rattle.qws_base.specs.declared.journals.JournalEntry.{JournalEntry}
+use Rattle.qws_base.specs.declared.journals.BookEntry.{BookEntry}
+use Rattle.qws_base.specs.Sheets.{Sheet}
+use Rattle.region_table.specs.Numbers.{IsTableWord}
 use Rattle.qws_base.specs.Books.{BookView}
 use Rattle.qws_base.specs.Scenes.{Setting}
+use Rattle.fb_words.specs.declared.known.Item.{Item}
+use Rattle.fb_words.specs.declared.known.Item.TheVariants.{Pick, Put}
+use Rattle.fb_words.specs.declared.known.Mode.{Mode}
 use Rattle.fb_words.specs.declared.known.Mode.TheVariants.{Idle, Refused, Reading}
 use Rattle.fb_words.specs.declared.known.ServerMode.TheVariants.{Resting, Closing, Writing}
 use Rattle.fb_words.specs.declared.known.StepCall.{StepCall}
-use Rattle.fb_words.specs.declared.known.Call.TheVariants.{Step as OwnStep}
+use Rattle.fb_words.specs.declared.known.PaintCall.{PaintCall}
+use Rattle.fb_words.specs.declared.known.Call.TheVariants.{Step as OwnStep, Paint as OwnPaint}
 use Rattle.fb_words.specs.declared.known.Client.{Client}
 use Rattle.fb_words.specs.declared.known.Closed.{Closed}
 use Rattle.fb_words.specs.declared.known.Server.{Server}
 use Rattle.fb_words.specs.declared.known.View.{View}
+use Rattle.fb_words.specs.Tables.{is_table_word, revision_of_slot, IsTable, Follows}
+use Rattle.fb_words.specs.Clips.{looked_in, row_seen, with_row, Sees}
 use Rattle.fb_words.specs.Views.{total, is_client, steps_in, books_in, alone, only, head_view, the_server, client_of}
 use Rattle.fb_words.specs.Rule.{steps_of}
 
@@ -40,6 +50,56 @@ after_retreat p = record p { mode = Idle }
 
 abbrev pub retreated : Step Empty → Me Empty View → ℕ → Me Empty View → Type 0
 retreated st me n me' = me' ≡ (alone (after_retreat (only me.0.clients)), [])
+
+-- a look at word i that found n
+abbrev pub or_first : Option ℕ → Option ℕ → Option ℕ
+or_first (Some s) o = Some s
+or_first None o = o
+
+abbrev pub looked_mode : ℕ → ℕ → Mode → Mode
+looked_mode i n Idle = Idle
+looked_mode i n Refused = Refused
+looked_mode i n (Reading stamp slot looked log) =
+    Reading (or_first stamp (if i == 1 then Some n else None)) (or_first slot (revision_of_slot i)) (looked ++ record { word = i; value = n } ∷ []) log
+
+abbrev pub after_look : Client → ℕ → ℕ → Client
+after_look p i n = record p { mode = looked_mode i n p.mode }
+
+abbrev pub looked_at : Step Empty → Me Empty View → ℕ → Me Empty View → Type 0
+looked_at st me n me' = let q = after_look (only me.0.clients) st.word n in (me' ≡ (alone q, [])) × Sees q
+
+-- a leave: the turn that it closes
+abbrev pub stamp_in : Mode → Option ℕ
+stamp_in Idle = None
+stamp_in Refused = None
+stamp_in (Reading stamp slot looked log) = stamp
+
+abbrev pub slot_in : Mode → Option ℕ
+slot_in Idle = None
+slot_in Refused = None
+slot_in (Reading stamp slot looked log) = slot
+
+abbrev pub log_in : Mode → List Item
+log_in Idle = []
+log_in Refused = []
+log_in (Reading stamp slot looked log) = log
+
+abbrev pub paint_call : Client → BookEntry → Sheet → PaintCall
+paint_call p e sheet = record { stamp = e.stamp; slot = e.slot; tag = e.tag; sheet = sheet; reply = e.reply; log = log_in p.mode; looked = looked_in p.mode }
+
+abbrev pub after_leave : Client → PaintCall → Client
+after_leave p t = record p { mode = Idle; own = p.own ++ OwnPaint t ∷ []; seen = t.stamp; clips = with_row (row_seen p.number p.mode) p.clips }
+
+abbrev pub left : PaintCall → Step Empty → Me Empty View → ℕ → Me Empty View → Type 0
+left t st me n me' = me' ≡ (alone (after_leave (only me.0.clients) t), [])
+
+abbrev pub no_paint : PaintCall
+no_paint = record { stamp = 0; slot = 0; tag = 0; sheet = record { reach = record { x = pos 0; y = pos 0; w = 0; h = 0 }; inks = [] }; reply = Gone; log = []; looked = [] }
+
+-- the entry of a turn: it has the turn's stamp, and where the turn has read or written a pixel its slot
+pub record IsEntryOf (p : Client) (e : BookEntry) : Type 0 where
+  pub stamp : stamp_in p.mode ≡ Some e.stamp
+  pub slot : (k : ℕ) (i : Item) → get_elem? (log_in p.mode) k ≡ some i → slot_in p.mode ≡ Some e.slot
 
 -- ---- a server's steps
 
@@ -77,11 +137,31 @@ abbrev pub settled : Step Empty → Me Empty View → ℕ → Me Empty View → 
 settled st me n me' = let s = the_server me.0 in let ps = me.0.clients in
     (me' ≡ (head_view (after_settle s n) ps, [])) × (AllHere s ps → n ≡ 4294967296)
 
+-- a read of word i that found n, and a write of word i
+abbrev pub after_read : Server → ℕ → ℕ → Server
+after_read s i n = record s { log = (if is_table_word i then s.log else s.log ++ Pick i n ∷ []) }
+
+-- of a table word it is the present one
+abbrev pub was_read : Step Empty → Me Empty View → ℕ → Me Empty View → Type 0
+was_read st me n me' = let s = the_server me.0 in
+    (me' ≡ (head_view (after_read s st.word n) me.0.clients, [])) × (IsTableWord st.word → n ≡ slice_index s.present st.word)
+
+abbrev pub after_write : Server → ℕ → ℕ → Server
+after_write s i v = record s { present = (if is_table_word i then slice_set s.present i v else s.present); log = (if is_table_word i then s.log else s.log ++ Put i v ∷ []) }
+
+abbrev pub wrote : Step Empty → Me Empty View → ℕ → Me Empty View → Type 0
+wrote st me n me' = me' ≡ (head_view (after_write (the_server me.0) st.word st.first) me.0.clients, [])
+
 abbrev pub after_withdraw : Server → Server
 after_withdraw s = record s { mode = Resting }
 
 abbrev pub withdrew : Step Empty → Me Empty View → ℕ → Me Empty View → Type 0
 withdrew st me n me' = me' ≡ (head_view (after_withdraw (the_server me.0)) me.0.clients, [])
+
+-- the present table is a table with the next number, and follows the last closed one
+pub record IsNextTable (s : Server) : Type 0 where
+  pub is_table : IsTable s.setting.size (length s.limits) (length s.closed + 1) s.present
+  pub follows : (t : List ℕ) → get_elem? s.tables (length s.closed) ≡ some t → Follows t s.present
 
 -- a give: the turn that it closes, also as its client has it
 abbrev pub closed_turn : Server → JournalEntry → Closed

@@ -3,6 +3,7 @@
 
 mod client_steps;
 mod known;
+mod laws;
 mod plays;
 mod screen;
 mod seats;
@@ -13,5 +14,6 @@ pub use known::{
     Call, Client, Closed, Item, KeptClip, Looked, Mode, PaintCall, PaintSheet, ScreenSetting,
     Server, ServerMode, StepCall, View,
 };
+pub use laws::{paints_are_carried, pictures_are_shown, sessions_are_carried, steps_are_carried};
 pub use screen::{Screen, WordRule};
 pub use tokens::{Head, Pass, Stub};

@@ -19,6 +19,53 @@ impl Play<(), View> for Retreats {
     ghost then = { retreated };
 }
 
+pub(crate) struct Looks;
+
+impl Play<(), View> for Looks {
+    ghost use Rattle.fb_words.specs.Steps.{looked_at};
+
+    ghost then = { looked_at };
+}
+
+/// The turn that a leave closes.
+pub(crate) trait Turn {
+    ghost use Rattle.fb_words.specs.declared.known.PaintCall.{PaintCall};
+
+    ghost turn: { PaintCall };
+}
+
+impl Turn for Brand {
+    ghost use Rattle.fb_words.specs.Steps.{no_paint};
+
+    ghost turn = { no_paint };
+}
+
+pub(crate) struct Leaves<T> {
+    of: PhantomData<T>,
+}
+
+impl<T: Turn> Play<(), View> for Leaves<T> {
+    ghost use Rattle.fb_words.specs.Steps.{left};
+
+    ghost then = { left T.turn };
+}
+
+pub(crate) struct Reads;
+
+impl Play<(), View> for Reads {
+    ghost use Rattle.fb_words.specs.Steps.{was_read};
+
+    ghost then = { was_read };
+}
+
+pub(crate) struct Writes;
+
+impl Play<(), View> for Writes {
+    ghost use Rattle.fb_words.specs.Steps.{wrote};
+
+    ghost then = { wrote };
+}
+
 pub(crate) struct Announces;
 
 impl Play<(), View> for Announces {

@@ -5,7 +5,8 @@ ghost use Rattle.qws_base.specs.Scenes.{setting_of};
 ghost use Rattle.qws_base.specs.Points.{pixel_count};
 ghost use Rattle.qws_base.specs.Colours.{IsSceneColour};
 ghost use Rattle.fb_words.specs.declared.known.Mode.TheVariants.{Idle};
-ghost use Rattle.fb_words.specs.Tables.{first_pixel, opening_words, opening_word};
+ghost use Rattle.region_table.specs.Opening.{opening_word};
+ghost use Rattle.fb_words.specs.Tables.{first_pixel, opening_words};
 ghost use Rattle.fb_words.specs.Views.{opening_server, total, is_client, books_in, without, client_of};
 ghost use Rattle.fb_words.specs.Steps.{with_limit, fresh, AllSit, SitsAs};
 

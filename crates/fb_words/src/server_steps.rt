@@ -1,10 +1,11 @@
 //! The steps of the head.
-ghost use Rattle.std.specs.Prelude.{◌≡◌, ◌+◌, ◌<◌, ◌≤◌, ◌^◌, length, map, MatchResult};
+ghost use Rattle.std.specs.Prelude.{◌≡◌, ◌+◌, ◌<◌, ◌≤◌, ◌^◌, length, map, slice_index, MatchResult};
+ghost use Rattle.region_table.specs.Numbers.{IsTableWord};
 ghost use Rattle.fb_words.specs.declared.known.ServerMode.TheVariants.{Resting, Closing, Writing};
 ghost use Rattle.fb_words.specs.Views.{total, is_client};
-ghost use Rattle.fb_words.specs.Steps.{after_announce, after_settle, after_withdraw, after_give, with_step, AllHere};
+ghost use Rattle.fb_words.specs.Steps.{after_announce, after_settle, after_withdraw, after_read, after_write, IsNextTable, after_give, with_step, AllHere};
 
-use crate::plays::{Announces, Entry, Gives, Settles, Withdraws};
+use crate::plays::{Announces, Entry, Gives, Reads, Settles, Withdraws, Writes};
 use crate::screen::Screen;
 use crate::tokens::Head;
 use qws_base::JournalEntry;
@@ -56,12 +57,38 @@ impl Screen {
         head.closing = false;
     }
 
+    /// Reads a word other than the gate, in the server's turn. A table word is the present one.
+    pub fn read(&self, head: &mut Head, word: u64) -> u64
+        requires screen { head.old.screen ≡ self.now }
+        requires writing { head.old.server.mode ≡ Writing }
+        requires word { IsTableWord word }
+        ensures head { head.new ≡ record head.old { server = after_read head.old.server word result } }
+        ensures present { IsTableWord word → result ≡ slice_index head.old.server.present word }
+    {
+        self.table
+            .shared
+            .load::<Reads>(&mut head.seat, word as usize)
+    }
+
+    /// Writes a word other than the gate, in the server's turn.
+    pub fn write(&self, head: &mut Head, word: u64, value: u64)
+        requires screen { head.old.screen ≡ self.now }
+        requires writing { head.old.server.mode ≡ Writing }
+        requires word { IsTableWord word }
+        ensures { head.new ≡ record head.old { server = after_write head.old.server word value } }
+    {
+        self.table
+            .shared
+            .store::<Writes>(&mut head.seat, word as usize, value)
+    }
+
     fn give_as<E: Entry>(&self, head: &mut Head, entry: &JournalEntry)
         requires entry { entry.now ≡ E.entry }
         requires screen { head.old.screen ≡ self.now }
         requires writing { head.old.server.mode ≡ Writing }
         requires next { entry.now.number ≡ length head.old.server.closed + 1 }
         requires sits { 1 ≤ total (is_client entry.now.client) head.old.sitting }
+        requires table { IsNextTable head.old.server }
         ensures { head.new ≡ record head.old { server = after_give head.old.server entry.now; sitting = map (with_step entry.now) head.old.sitting } }
     {
         self.table
@@ -70,12 +97,13 @@ impl Screen {
     }
 
     /// Closes the turn with its entry, which has the next number. Its client sits with the head, and has the step among its
-    /// own calls.
+    /// own calls. The present table has the next number too, and follows the last closed one.
     pub fn give(&self, head: &mut Head, entry: &JournalEntry)
         requires screen { head.old.screen ≡ self.now }
         requires writing { head.old.server.mode ≡ Writing }
         requires next { entry.now.number ≡ length head.old.server.closed + 1 }
         requires sits { 1 ≤ total (is_client entry.now.client) head.old.sitting }
+        requires table { IsNextTable head.old.server }
         ensures { head.new ≡ record head.old { server = after_give head.old.server entry.now; sitting = map (with_step entry.now) head.old.sitting } }
     {
         self.give_as::<Brand>(head, entry);

@@ -1,0 +1,15 @@
+use Rattle.std.proofs.Common.{rules, Some, sym, ap, ◌∙◌}
+use Rattle.fb_words.specs.Views.{book_entry}
+use Rattle.fb_words.specs.Steps.{stamp_in}
+use Rattle.fb_words.proofs.Looking.{leaves, left_pass}
+use Rattle.fb_words.proofs.screen.Screen.leave_as.Goals as goal
+
+pub fetch_sub-requires : goal.fetch_sub-requires
+fetch_sub-requires g c = (
+  ap (λ h. h.screen.table) c.pass.view_is ∙ ap (λ s. s.table) (c.requires.screen ∙ sym c.self.view_is),
+  search rules,
+  leaves _ _ _ _ g.T.Turn.turn c.pass.invariant.0 (ap (λ h. stamp_in h.client.mode) c.pass.view_is ∙ c.requires.entry.stamp ∙ ap (λ t. Some t.stamp) c.requires.turn),
+)
+
+pub invariant_of-pass : goal.invariant_of-pass
+invariant_of-pass g c = left_pass _ c.pass.inside.seat.me g.T.Turn.turn _ _ c.args.entry c.fetch_sub.ensures.2 (c.pass.invariant.1, c.pass.invariant.2) c.push.ensures (ap book_entry c.requires.turn)
