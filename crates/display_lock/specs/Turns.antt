@@ -1,5 +1,5 @@
 -- What open turns are, and what a refused one leaves.
-use Rattle.fb_words.specs.Steps.{stamp_in}
+use Rattle.fb_words.specs.Clips.{stamp_in}
 use Rattle.fb_words.specs.declared.known.Client.{Client}
 use Rattle.std.specs.Prelude.{◌≡◌, ℕ, [], ◌∷◌, ◌++◌, Some, None, Result, Ok, Err}
 use Rattle.fb_words.specs.declared.known.Mode.TheVariants.{Idle, Reading}

@@ -3,11 +3,16 @@ ghost use Rattle.std.specs.Prelude.{◌≡◌, ◌+◌, ◌<◌, ◌≤◌, ◌^
 ghost use Rattle.std.specs.Borrow.{sem, RestsIfErr};
 ghost use Rattle.fb_words.specs.declared.known.Mode.TheVariants.{Idle};
 ghost use Rattle.fb_words.specs.declared.known.ServerMode.TheVariants.{Resting, Closing, Writing};
+ghost use Rattle.qws_base.specs.Points.{pixel_count};
+ghost use Rattle.qws_base.specs.Colours.{IsSceneColour};
+ghost use Rattle.fb_words.specs.Tables.{first_pixel, IsLineWord};
+ghost use Rattle.fb_words.specs.Rights.{Owns};
+ghost use Rattle.fb_words.specs.declared.known.Item.TheVariants.{Pick, Put};
 ghost use Rattle.region_table.specs.Numbers.{IsTableWord, row_word};
 ghost use Rattle.fb_words.specs.declared.known.KeptClip.{KeptClip};
 ghost use Rattle.fb_words.specs.Clips.{look_of, looked_in, kept, Sees};
 ghost use Rattle.fb_words.specs.Views.{total, is_client, is_writing, books_in};
-ghost use Rattle.fb_words.specs.Steps.{after_look, paint_call, after_leave, IsEntryOf, after_announce, after_read, after_write, IsNextTable, after_give, with_step, AllHere};
+ghost use Rattle.fb_words.specs.Steps.{after_look, after_item, CarriesAtEnd, CarriesAtGive, ReadTells, Knows, arranged, paint_call, after_leave, IsEntryOf, after_announce, after_read, after_write, IsNextTable, after_give, with_step, AllHere};
 ghost use Rattle.fb_words.specs.contracts.tokens.Pass as pass_of;
 ghost use Rattle.fb_words.specs.contracts.tokens.Head as head_of;
 ghost use Rattle.display_lock.specs.Turns.{IsTurned, IsOpen, SameTurn, client_in, turned_away, let_in, IsShutOut, SameServerTurn, IsOpenServer, shut_out, opened, withdrawn};
@@ -111,11 +116,37 @@ impl<'a> PaintTurn<'a> {
         self.screen.look(self.pass, word)
     }
 
-    /// Closes the turn with its entry, which goes into the book, and with the sheet of the picture.
+    /// Reads a framebuffer word or a saved word that the turn owns.
+    pub fn pick(&mut self, word: u64) -> u64
+        requires open { IsOpen self.old }
+        requires owns { Owns (client_in self.old) word }
+        ensures same { SameTurn self.old self.new }
+        ensures open { IsOpen self.new }
+        ensures pass { client_in self.new ≡ after_item (client_in self.old) (Pick word result) }
+        ensures colour { IsSceneColour (client_in self.old).setting.depth result }
+    {
+        self.screen.pick(self.pass, word)
+    }
+
+    /// Writes a framebuffer word or a saved word that the turn owns.
+    pub fn put(&mut self, word: u64, value: u64)
+        requires open { IsOpen self.old }
+        requires owns { Owns (client_in self.old) word }
+        requires colour { IsSceneColour (client_in self.old).setting.depth value }
+        ensures same { SameTurn self.old self.new }
+        ensures open { IsOpen self.new }
+        ensures pass { client_in self.new ≡ after_item (client_in self.old) (Put word value) }
+    {
+        self.screen.put(self.pass, word, value);
+    }
+
+    /// Closes the turn with its entry, which goes into the book, and with the sheet of the picture. The turn's log carries the
+    /// paint, and the reply is the paint's, whatever the table is of which the turn has looked at a part.
     pub fn end<P: Picture>(self, entry: BookEntry, picture: &P)
         requires open { IsOpen self }
         requires entry { IsEntryOf self.pass.now.client entry }
         requires room { length (books_in self.pass.now.client.own) < self.pass.now.book_limit }
+        requires carries { CarriesAtEnd self.pass.now.client entry (P.sheet picture.now) }
         ensures { self.exit.1.0.now ≡ record self.entry.pass.now { client = after_leave self.entry.pass.now.client (paint_call self.entry.pass.now.client entry (P.sheet picture.now)) } }
     {
         let PaintTurn {
@@ -145,6 +176,7 @@ fn take_over(screen: &Screen, head: &mut Head) -> Result<(), Busy>
     ensures head { MatchResult result (λ _. head.new ≡ opened head.old) (λ busy. head.new ≡ shut_out head.old busy.found) }
     ensures found { IfErr result (λ busy. busy.found ≡ 2 ^ 32 → ⊥) }
     ensures free { IfErr result (λ busy. AllHere head.old.server head.old.sitting → ⊥) }
+    ensures known { AllHere head.old.server head.old.sitting → Knows head.old.server (arranged (length head.old.server.limits) head.old.sitting) }
 {
     close(screen, head);
     match screen.settle(head) {
@@ -155,7 +187,8 @@ fn take_over(screen: &Screen, head: &mut Head) -> Result<(), Busy>
 
 /// The server's turn. It announces the server where that is not done yet, and settles once. `Busy` comes exactly where the
 /// settle found a word other than 2^32: painters are in, or were refused and aren't back yet. The gate stays closed then,
-/// and the head has the word that was found. It doesn't come where all admitted clients sit.
+/// and the head has the word that was found. It doesn't come where all admitted clients sit;
+/// all closed turns are known then.
 pub fn try_server_turn<'a>(head: &'a mut Head, screen: &'a Screen) -> Result<ServerTurn<'a>, Busy>
     requires screen { head.old.screen ≡ screen.now }
     requires not_writing { is_writing head.old.server.mode ≡ false }
@@ -164,27 +197,30 @@ pub fn try_server_turn<'a>(head: &'a mut Head, screen: &'a Screen) -> Result<Ser
     ensures open { IfOk result (λ turn. (turn.screen.now ≡ screen.now) × (turn.head.now ≡ opened head.old)) }
     ensures found { IfErr result (λ busy. busy.found ≡ 2 ^ 32 → ⊥) }
     ensures free { IfErr result (λ busy. AllHere head.old.server head.old.sitting → ⊥) }
+    ensures known { AllHere head.old.server head.old.sitting → Knows head.old.server (arranged (length head.old.server.limits) head.old.sitting) }
 {
     take_over(screen, head)?;
     Ok(ServerTurn { screen, head })
 }
 
 impl<'a> ServerTurn<'a> {
-    /// Reads a word other than the gate. A table word is the present one.
+    /// Reads a word other than the gate. A table word is the present one. A framebuffer word or a saved word is a scene colour,
+    /// and where all admitted clients sit it is what the word's line has written.
     pub fn read(&mut self, word: u64) -> u64
         requires open { IsOpenServer self.old }
-        requires word { IsTableWord word }
+        requires word { (1 ≤ word) × (word < first_pixel + pixel_count self.old.screen.now.setting.size) }
         ensures same { SameServerTurn self.old self.new }
         ensures head { self.new.head.now ≡ record self.old.head.now { server = after_read self.old.head.now.server word result } }
-        ensures present { IsTableWord word → result ≡ slice_index self.old.head.now.server.present word }
+        ensures tells { ReadTells self.old.head.now.server self.old.head.now.sitting word result }
     {
         self.screen.read(self.head, word)
     }
 
-    /// Writes a word other than the gate.
+    /// Writes a word other than the gate. Into a framebuffer word or a saved word goes a scene colour.
     pub fn write(&mut self, word: u64, value: u64)
         requires open { IsOpenServer self.old }
-        requires word { IsTableWord word }
+        requires word { (1 ≤ word) × (word < first_pixel + pixel_count self.old.screen.now.setting.size) }
+        requires colour { IsLineWord word → IsSceneColour self.old.head.now.server.setting.depth value }
         ensures same { SameServerTurn self.old self.new }
         ensures head { self.new.head.now ≡ record self.old.head.now { server = after_write self.old.head.now.server word value } }
     {
@@ -192,12 +228,13 @@ impl<'a> ServerTurn<'a> {
     }
 
     /// Ends the turn with its entry, which has the next number. Its client sits with the head. The present table has the next
-    /// number too, and follows the last closed one.
+    /// number too, and follows the last closed one; the turn's log carries the step from that one to it.
     pub fn end(self, entry: &JournalEntry)
         requires open { IsOpenServer self }
         requires next { entry.now.number ≡ length self.head.now.server.closed + 1 }
         requires sits { 1 ≤ total (is_client entry.now.client) self.head.now.sitting }
         requires table { IsNextTable self.head.now.server }
+        requires carries { CarriesAtGive self.head.now.server entry.now }
         ensures { self.exit.1.0.now ≡ record self.entry.head.now { server = after_give self.entry.head.now.server entry.now; sitting = map (with_step entry.now) self.entry.head.now.sitting } }
     {
         let ServerTurn { screen, head } = self;

@@ -1,5 +1,9 @@
 -- A step of a client that changes no word but the gate keeps the words and the world in step.
-use Rattle.std.proofs.Common.{◌≡◌, ℕ, ◌+◌, ◌-◌, ◌%◌, ◌^◌, ◌<◌, ◌≤◌, zero-le, nat_lt, if◌then◌else◌, Bool, true, false, List, [], ◌∷◌, ◌++◌, length, get_or, set, length-set, sym, refl, ap, ◌∙◌, subst, arith, None}
+use Rattle.fb_words.specs.Tables.{IsLineWord}
+use Rattle.fb_words.proofs.Joining.{joined_set_same, upto_same}
+use Rattle.fb_words.specs.Segments.{joined, call_items, open_items, client_items, server_items, segment, line, LineOk}
+use Rattle.fb_words.specs.Lines.{on}
+use Rattle.std.proofs.Common.{◌≡◌, ℕ, ◌+◌, ◌-◌, ◌%◌, ◌^◌, ◌<◌, ◌≤◌, zero-le, nat_lt, if◌then◌else◌, Bool, true, false, List, [], ◌∷◌, ◌++◌, length, get_or, set, length-set, sym, refl, ap, ◌∙◌, subst, arith, None, suc}
 use Rattle.std.proofs.lemmas.List.{get_or-set_other, get_or-set_same}
 use Rattle.std.proofs.lemmas.Bool.{false≢true}
 use Rattle.std.proofs.lemmas.Bool.Decides.{nat_tests}
@@ -16,11 +20,11 @@ use Rattle.fb_words.specs.declared.known.Client.{Client}
 use Rattle.fb_words.specs.declared.known.Server.{Server}
 use Rattle.fb_words.specs.declared.known.View.{View}
 use Rattle.fb_words.specs.Views.{total, busy, reading, busy_mode, reading_mode, shut, is_writing, steps_in, alone, only}
-use Rattle.fb_words.specs.Rule.{World, SeatOk, OrderOk, steps_of, TablesOk, ClipsOk, LooksOk, Fits, Holds}
+use Rattle.fb_words.specs.Rule.{World, SeatOk, OrderOk, steps_of, TablesOk, ClipsOk, LooksOk, Fits, Holds, OpenRights, PaintsOk}
 use Rattle.fb_words.specs.Steps.{after_enter, entered, after_retreat, retreated}
 use Rattle.fb_words.proofs.Places.{each_set}
 use Rattle.fb_words.proofs.Totals.{total_set, total_one}
-use Rattle.fb_words.proofs.Rows.{table_positive}
+use Rattle.fb_words.proofs.Rows.{table_positive, line_far, not_both}
 use Rattle.fb_words.proofs.Spreads.{with_client, client_steps}
 
 -- the words but the gate are the same
@@ -52,20 +56,41 @@ looks_same words ws closed Idle same ok = tt
 looks_same words ws closed Refused same ok = tt
 looks_same words ws closed (Reading stamp slot looked log) same ok = ((λ k l e. let t = ok.0 k l e in (t.0, same.same l.word (table_positive l.word t.0) ∙ t.1)), ok.1, ok.2)
 
+-- a word that is in no table changes
+pub looks_kept : (words : List ℕ) (x v closed : ℕ) (m : Mode) → IsLineWord x → LooksOk words closed m → LooksOk (set words x v) closed m
+looks_kept words x v closed Idle far ok = tt
+looks_kept words x v closed Refused far ok = tt
+looks_kept words x v closed (Reading stamp slot looked log) far ok = ((λ k l e. let t = ok.0 k l e in (t.0, get_or-set_other words x l.word v 0 (not_both l.word x t.0 far) ∙ t.1)), ok.1, ok.2)
+
+pub tables_kept : (size : Sides) (words : List ℕ) (x v : ℕ) (s : Server) → IsLineWord x → TablesOk size words s → TablesOk size (set words x v) s
+tables_kept size words x v s far ok = record {
+  wide = ok.wide;
+  shown = λ i t. get_or-set_other words x i v 0 (not_both i x t far) ∙ ok.shown i t;
+  long = ok.long;
+  first = ok.first;
+  last = ok.last;
+  well = ok.well;
+  next = ok.next;
+}
+
 -- what is said of one client part, when p becomes q
-pub record Still (size : Sides) (ws : List ℕ) (s : Server) (p q : Client) : Type 0 where
+pub record Still (key : Setting) (ws : List ℕ) (s : Server) (p q : Client) : Type 0 where
   pub number : q.number ≡ p.number
   pub setting : q.setting ≡ p.setting
   pub limit : q.step_limit ≡ p.step_limit
   pub order : OrderOk (length s.closed) q
   pub steps : steps_in q.own ≡ steps_in p.own
-  pub clips : ClipsOk size s p.number q
+  pub clips : ClipsOk key.size s p.number q
   pub looks : LooksOk ws (length s.closed) q.mode
+  pub rights : OpenRights key.size s.present p.number q.mode
+  pub paints : PaintsOk key s p.number q
+  pub items : (e : ℕ) → client_items e q ≡ client_items e p
 
 -- where the calls and the clips are as before
 pub same_calls : (key : Setting) (words ws : List ℕ) (w : World) (p q : Client) → Fits key words w → get_elem? w.clients p.number ≡ some p
-    → q.number ≡ p.number → q.setting ≡ p.setting → q.step_limit ≡ p.step_limit → q.own ≡ p.own → q.seen ≡ p.seen → q.clips ≡ p.clips → LooksOk ws (length w.server.closed) q.mode → Still key.size ws w.server p q
-same_calls key words ws w p q f at number setting limit own seen clips looks = let ok = f.order p.number p at in record {
+    → q.number ≡ p.number → q.setting ≡ p.setting → q.step_limit ≡ p.step_limit → q.own ≡ p.own → q.seen ≡ p.seen → q.clips ≡ p.clips → LooksOk ws (length w.server.closed) q.mode
+    → OpenRights key.size w.server.present p.number q.mode → ((e : ℕ) → open_items e q.mode ≡ open_items e p.mode) → Still key ws w.server p q
+same_calls key words ws w p q f at number setting limit own seen clips looks rights items = let ok = f.order p.number p at in record {
   number = number;
   setting = setting;
   limit = limit;
@@ -77,11 +102,14 @@ same_calls key words ws w p q f at number setting limit own seen clips looks = l
   steps = ap steps_in own;
   clips = λ k clip t e. f.clips p.number p at k clip t (subst (λ l. get_elem? l k ≡ some clip) clips e);
   looks = looks;
+  rights = rights;
+  paints = λ k a e. f.paints p.number p at k a (subst (λ l. get_elem? l k ≡ some a) own e);
+  items = λ e. ap (λ l. joined (call_items e) l ++ open_items e q.mode) own ∙ ap (λ l. joined (call_items e) p.own ++ l) (items e);
 }
 
 -- one client part changes, and the gate with it
 pub fits_client : (key : Setting) (words ws : List ℕ) (w : World) (p q : Client) → Fits key words w → get_elem? w.clients p.number ≡ some p → SameWords words ws
-    → get_or ws 0 0 + busy p ≡ get_or words 0 0 + busy q → (is_writing w.server.mode ≡ true → reading q ≤ reading p) → Still key.size ws w.server p q → Fits key ws (with_client w q)
+    → get_or ws 0 0 + busy p ≡ get_or words 0 0 + busy q → (is_writing w.server.mode ≡ true → reading q ≤ reading p) → Still key ws w.server p q → Fits key ws (with_client w q)
 fits_client key words ws w p q f at same gate apart own = let s = w.server in let cs = w.clients in
     let P : ℕ → Type 0 = λ n. Fits key ws record w { clients = set cs n q } in subst P (sym own.number) record {
       setting = record { long = same.long ∙ f.setting.long; screen = f.setting.screen; colour = f.setting.colour; server = f.setting.server };
@@ -97,6 +125,14 @@ fits_client key words ws w p q f at same gate apart own = let s = w.server in le
       tables = tables_same key.size words ws s same f.tables;
       clips = each_set (ClipsOk key.size s) cs p.number q (λ c r _ e. f.clips c r e) own.clips;
       looks = each_set (λ c r. LooksOk ws (length s.closed) r.mode) cs p.number q (λ c r _ e. looks_same words ws (length s.closed) r.mode same (f.looks c r e)) own.looks;
+      rights = each_set (λ c r. OpenRights key.size s.present c r.mode) cs p.number q (λ c r _ e. f.rights c r e) own.rights;
+      paints = each_set (PaintsOk key s) cs p.number q (λ c r _ e. f.paints c r e) own.paints;
+      steps = f.steps;
+      quiet = f.quiet;
+      lines = λ x far lt. let old = f.lines x far (rw (sym same.long) lt) in let lo = line_far x far in
+          let stays : line x s (set cs p.number q) ≡ line x s cs = upto_same (segment x s (set cs p.number q)) (segment x s cs) (suc (length s.closed))
+          (λ e le. ap (λ z. on x (server_items s e) ++ z) (joined_set_same (λ r. on x (client_items e r)) cs p.number p q at (ap (on x) (own.items e)))) in
+          subst (λ z. LineOk key x z (line x s (set cs p.number q))) (sym (same.same x (omega arith))) (subst (LineOk key x (get_or words x 0)) (sym stays) old);
     }
 
 few_busy : (l : List Client) → total busy l ≤ length l
@@ -127,15 +163,15 @@ module _ (key : Setting) (words : List ℕ) (w : World) (p : Client) (f : Fits k
   abbrev n : ℕ
   n = get_or words 0 0
 
-  enters_as : (m : Mode) (t : List ℕ) → busy_mode m ≡ 1 → (is_writing w.server.mode ≡ true → reading_mode m ≡ 0) → LooksOk (set words 0 (n + 1)) (length w.server.closed) m → Fits key (set words 0 (n + 1)) (with_client w record p { mode = m; turned = t })
-  enters_as m t one apart looks = let q : Client = record p { mode = m; turned = t } in
+  enters_as : (m : Mode) (t : List ℕ) → busy_mode m ≡ 1 → (is_writing w.server.mode ≡ true → reading_mode m ≡ 0) → LooksOk (set words 0 (n + 1)) (length w.server.closed) m → OpenRights key.size w.server.present p.number m → ((e : ℕ) → open_items e m ≡ []) → Fits key (set words 0 (n + 1)) (with_client w record p { mode = m; turned = t })
+  enters_as m t one apart looks rights empty = let q : Client = record p { mode = m; turned = t } in
       fits_client key words (set words 0 (n + 1)) w p q f at (gate_set words (n + 1))
       (let z : busy_mode p.mode ≡ 0 = ap busy_mode idle in let now = gate_now key words w (n + 1) f in omega arith) (λ writing. let z = apart writing in omega arith)
-      (same_calls key words (set words 0 (n + 1)) w p q f at refl refl refl refl refl refl looks)
+      (same_calls key words (set words 0 (n + 1)) w p q f at refl refl refl refl refl refl looks rights (λ e. empty e ∙ ap (open_items e) (sym idle)))
 
   enters_fit : (b : Bool) → nat_lt n 4294967296 ≡ b → Fits key (set words 0 (n + 1)) (with_client w record p { mode = (if b then Reading None None [] [] else Refused); turned = (if b then p.turned else p.turned ++ n ∷ []) })
-  enters_fit true low = enters_as (Reading None None [] []) p.turned refl (λ writing. absurd (low_is_open w.server.mode n (total busy w.clients) f.gate (grind (arith, nat_tests)) writing)) ((λ k l e. absurd (some-ne-none l (sym e))), tt, tt)
-  enters_fit false low = enters_as Refused (p.turned ++ n ∷ []) refl (λ writing. refl) tt
+  enters_fit true low = enters_as (Reading None None [] []) p.turned refl (λ writing. absurd (low_is_open w.server.mode n (total busy w.clients) f.gate (grind (arith, nat_tests)) writing)) ((λ k l e. absurd (some-ne-none l (sym e))), tt, tt) refl (λ e. refl)
+  enters_fit false low = enters_as Refused (p.turned ++ n ∷ []) refl (λ writing. refl) tt tt (λ e. refl)
 
 abbrev Mine : Type 0
 Mine = Me (Unit {0}) View
@@ -153,15 +189,15 @@ enters key slots id me is idle = let P : Mine → Type 0 = λ m. Allows (Holds k
     (after_enter p n, refl, rw more (enters_fit key words w p f at idle (nat_lt n 4294967296) refl), refl)))
 
 -- retreat
-pub retreats : (key : Setting) (slots id : ℕ) (me : Mine) → IsAlone me → busy_mode (part_of me).mode ≡ 1 → Allows (Holds key) slots id me 0 (λ n. (n + (2 ^ 64 - 1)) % 2 ^ 64) (retreated (step slots 0 1 0 none) me)
-retreats key slots id me is is_busy = let P : Mine → Type 0 = λ m. Allows (Holds key) slots id m 0 (λ n. (n + (2 ^ 64 - 1)) % 2 ^ 64) (retreated (step slots 0 1 0 none) m) in let p = part_of me in
+pub retreats : (key : Setting) (slots id : ℕ) (me : Mine) → IsAlone me → (part_of me).mode ≡ Refused → Allows (Holds key) slots id me 0 (λ n. (n + (2 ^ 64 - 1)) % 2 ^ 64) (retreated (step slots 0 1 0 none) me)
+retreats key slots id me is refused = let P : Mine → Type 0 = λ m. Allows (Holds key) slots id m 0 (λ n. (n + (2 ^ 64 - 1)) % 2 ^ 64) (retreated (step slots 0 1 0 none) m) in let p = part_of me in
     subst P (sym is) (client_steps key slots id p 0 (λ n. (n + (2 ^ 64 - 1)) % 2 ^ 64) (retreated (step slots 0 1 0 none) (alone p, []))
-    (λ words w f at small. let n : ℕ = get_or words 0 0 in let fits : n < 18446744073709551616 = small in let g = f.gate in let one = total_one busy w.clients p.number p at in
+    (λ words w f at small. let n : ℕ = get_or words 0 0 in let fits : n < 18446744073709551616 = small in let g = f.gate in let is_busy : busy p ≡ 1 = ap busy_mode refused in let one = total_one busy w.clients p.number p at in
     let less : (n + 18446744073709551615) % 18446744073709551616 ≡ n - 1 = omega arith in (
       after_retreat p,
       refl,
       rw less (fits_client key words (set words 0 (n - 1)) w p (after_retreat p) f at (gate_set words (n - 1))
           (let now = gate_now key words w (n - 1) f in omega arith) (λ _. zero-le)
-          (same_calls key words (set words 0 (n - 1)) w p (after_retreat p) f at refl refl refl refl refl refl tt)),
+          (same_calls key words (set words 0 (n - 1)) w p (after_retreat p) f at refl refl refl refl refl refl tt tt (λ e. ap (open_items e) (sym refused)))),
       refl,
     )))

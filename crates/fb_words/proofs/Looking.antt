@@ -1,7 +1,14 @@
 -- A look, and a leave that closes a turn, keep the words and the world in step.
+use Rattle.fb_words.proofs.Painting.{look_rights, look_items, rights_log, open_as}
+use Rattle.fb_words.proofs.Joining.{joined-append}
+use Rattle.fb_words.specs.Segments.{joined, call_items, client_items}
+use Rattle.fb_words.specs.Rights.{LogIn}
+use Rattle.fb_words.specs.Carries.{CarriesPaintUnder, RepliesUnder}
+use Rattle.fb_words.specs.declared.known.Item.{Item}
 use Rattle.qws_base.specs.Books.{BookView}
-use Rattle.std.proofs.Common.{◌≡◌, ℕ, suc, ◌+◌, ◌-◌, ◌%◌, ◌^◌, ◌<◌, ◌≤◌, ◌==◌, nat_lt, ◌/◌, append-nil, zero-le, if◌then◌else◌, Bool, true, false, List, [], ◌∷◌, ◌++◌, length, get_or, set, sym, refl, ap, ◌∙◌, subst, arith, Option, Some, None, zero}
+use Rattle.std.proofs.Common.{◌≡◌, ℕ, suc, ◌+◌, ◌-◌, ◌%◌, ◌^◌, ◌<◌, ◌≤◌, ◌==◌, nat_lt, ◌/◌, append-nil, zero-le, if◌then◌else◌, Bool, true, false, List, [], ◌∷◌, ◌++◌, length, get_or, set, length-append, sym, refl, ap, ◌∙◌, subst, arith, Option, Some, None, zero}
 use Rattle.std.proofs.lemmas.List.{set-get_or}
+use Rattle.std.proofs.lemmas.Bool.{false≢true}
 use Rattle.std.proofs.lemmas.Bool.Decides.{nat_tests}
 use mathlib.Core.Option.{some, none, some-injective, some-ne-none}
 use lib.ListN.{get_elem?}
@@ -14,22 +21,23 @@ use Rattle.region_table.specs.Numbers.{row_word, IsTableWord}
 use Rattle.fb_words.specs.declared.known.Looked.{Looked}
 use Rattle.fb_words.specs.declared.known.KeptClip.{KeptClip}
 use Rattle.fb_words.specs.declared.known.PaintCall.{PaintCall}
-use Rattle.fb_words.specs.declared.known.Call.TheVariants.{Paint}
+use Rattle.fb_words.specs.declared.known.Call.{Call}
+use Rattle.fb_words.specs.declared.known.Call.TheVariants.{Step, Paint}
 use Rattle.fb_words.specs.declared.known.Mode.{Mode}
 use Rattle.fb_words.specs.declared.known.Mode.TheVariants.{Idle, Refused, Reading}
 use Rattle.fb_words.specs.declared.known.Client.{Client}
 use Rattle.fb_words.specs.declared.known.Server.{Server}
 use Rattle.fb_words.specs.declared.known.View.{View}
-use Rattle.fb_words.specs.Tables.{revision_of_slot, revision_in, IsTable}
-use Rattle.fb_words.specs.Clips.{look_of, looked_in, row_seen, with_row, kept, IsClip, LooksTrue, Sees}
-use Rattle.fb_words.specs.Views.{total, busy, reading, busy_mode, reading_mode, is_writing, steps_in, books_in, book_entry, alone}
-use Rattle.fb_words.specs.Rule.{World, TablesOk, IsStamp, IsSlot, LooksOk, Fits, Holds}
-use Rattle.fb_words.specs.Steps.{or_first, looked_mode, after_look, looked_at, stamp_in, after_leave, left}
+use Rattle.fb_words.specs.Tables.{revision_of_slot, revision_in, IsTable, table_of}
+use Rattle.fb_words.specs.Clips.{look_of, looked_in, row_seen, with_row, kept, IsClip, LooksTrue, Sees, stamp_in, slot_in, log_in}
+use Rattle.fb_words.specs.Views.{total, busy, reading, busy_mode, reading_mode, is_writing, steps_in, books_in, book_entry, alone, only}
+use Rattle.fb_words.specs.Rule.{World, OrderOk, MayFollow, mark, TablesOk, ClipsOk, IsStamp, IsSlot, LooksOk, Fits, Holds, PaintOk, CallOk}
+use Rattle.fb_words.specs.Steps.{or_first, looked_mode, after_look, looked_at, after_leave, left}
 use Rattle.fb_words.proofs.Places.{each_of}
 use Rattle.fb_words.proofs.Totals.{total_one}
-use Rattle.fb_words.proofs.Rows.{look_true, spelt_from, seen_row, kept_is, same_some, none_some, table_below}
-use Rattle.fb_words.proofs.Spreads.{client_steps}
-use Rattle.fb_words.proofs.Gate.{SameWords, gate_set, gate_now, same_calls, fits_client, part_of, IsAlone}
+use Rattle.fb_words.proofs.Rows.{look_true, spelt_from, seen_row, kept_is, same_some, none_some, table_positive, table_below}
+use Rattle.fb_words.proofs.Spreads.{with_client, client_steps}
+use Rattle.fb_words.proofs.Gate.{SameWords, gate_set, gate_now, Still, same_calls, fits_client, part_of, IsAlone}
 use Rattle.fb_words.proofs.Serving.{order_more, steps_more, books_more}
 
 abbrev Mine : Type 0
@@ -51,12 +59,12 @@ pub present_table : (key : Setting) (words : List ℕ) (w : World) → Fits key 
 present_table key words w f idle = f.tables.well (length w.server.closed) w.server.present (f.tables.last idle)
 
 -- looked words are those of the present table
-looks_present : (size : Sides) (words : List ℕ) (s : Server) (m : Mode) → TablesOk size words s → LooksOk words (length s.closed) m → LooksOk s.present (length s.closed) m
+pub looks_present : (size : Sides) (words : List ℕ) (s : Server) (m : Mode) → TablesOk size words s → LooksOk words (length s.closed) m → LooksOk s.present (length s.closed) m
 looks_present size words s Idle ok l = tt
 looks_present size words s Refused ok l = tt
 looks_present size words s (Reading stamp slot looked log) ok l = ((λ k x e. let t = l.0 k x e in (t.0, sym (ok.shown x.word t.0) ∙ t.1)), l.1, l.2)
 
-looks_in : (t : List ℕ) (closed : ℕ) (m : Mode) → LooksOk t closed m → LooksTrue t (looked_in m)
+pub looks_in : (t : List ℕ) (closed : ℕ) (m : Mode) → LooksOk t closed m → LooksTrue t (looked_in m)
 looks_in t closed Idle l = λ k x e. absurd (some-ne-none x (sym e))
 looks_in t closed Refused l = λ k x e. absurd (some-ne-none x (sym e))
 looks_in t closed (Reading stamp slot looked log) l = l.0
@@ -107,7 +115,7 @@ looks key slots id me i is reads t = let p = part_of me in let Q : Mine → Type
       refl,
       fits_client key words (set words i n) w p q f at (look_set words i)
           (ap (λ ws. get_or ws 0 0 + busy p) (set-get_or words i 0) ∙ ap (λ k. get_or words 0 0 + k) (sym b.0)) (λ _. (let e = b.1 in omega arith))
-          (same_calls key words (set words i n) w p q f at refl refl refl refl refl refl set_ok),
+          (same_calls key words (set words i n) w p q f at refl refl refl refl refl refl set_ok (look_rights key.size s.present p.number i n p.mode (f.rights p.number p at)) (λ e. look_items key.size s.present p.number i n e p.mode (f.rights p.number p at))),
       (
         refl,
         record {
@@ -194,14 +202,50 @@ left_clips key words w p f at idle k clip t at_k at_t = go (row_seen p.number p.
         subst (λ x. IsClip key.size t p.number x) (some-injective c clip e) (subst (λ x. IsClip key.size x p.number c) now row.0)
     go (Some c) is (suc k) e = f.clips p.number p at k clip t e at_t
 
-pub leaves : (key : Setting) (slots id : ℕ) (me : Mine) (t : PaintCall) → IsAlone me → stamp_in (part_of me).mode ≡ Some t.stamp → Allows (Holds key) slots id me 0 (λ n. (n + (2 ^ 64 - 1)) % 2 ^ 64) (left t (step slots 0 1 0 none) me)
-leaves key slots id me t is stamped = let P : Mine → Type 0 = λ m. Allows (Holds key) slots id m 0 (λ n. (n + (2 ^ 64 - 1)) % 2 ^ 64) (left t (step slots 0 1 0 none) m) in let p = part_of me in
+-- what a leave asks: the turn that it closes is the client's open one, in its slot, and carries its paint
+abbrev pub Leaving : Client → PaintCall → Type 0
+Leaving p t = (stamp_in p.mode ≡ Some t.stamp) × ((k : ℕ) (i : Item) → get_elem? (log_in p.mode) k ≡ some i → slot_in p.mode ≡ Some t.slot) × (t.log ≡ log_in p.mode)
+    × ((v : Sees p) → CarriesPaintUnder p.setting (table_of v.table) t.slot t.sheet t.reply (log_in p.mode) × RepliesUnder p.setting (table_of v.table) p.number t.slot t.sheet t.reply)
+
+-- the turn that is closed
+closed_paint : (key : Setting) (words : List ℕ) (w : World) (p : Client) (t : PaintCall) → Fits key words w → get_elem? w.clients p.number ≡ some p → is_writing w.server.mode ≡ false → Leaving p t
+    → (u : List ℕ) → get_elem? w.server.tables t.stamp ≡ some u → PaintOk key u p.number t
+closed_paint key words w p t f at idle asks u at_u =
+    let s = w.server in let table = present_table key words w f idle in let seat = f.seats p.number p at in let many = f.as_many in let few = f.few in
+    let order = f.order p.number p at in let seen = order.seen_within in let stamped = table.stamp_is in
+    let now : t.stamp ≡ length s.closed = stamp_now words (length s.closed) p.mode t.stamp (f.looks p.number p at) asks.0 in
+    let is : s.present ≡ u = some-injective s.present u (sym (f.tables.last idle) ∙ ap (get_elem? s.tables) (sym now) ∙ at_u) in
+    let v : Sees p = record {
+      table = s.present;
+      admitted = length s.limits;
+      few = omega arith;
+      is_table = subst (λ x. IsTable x.size (length s.limits) (get_or s.present 1 0) s.present) (sym seat.setting_is) (subst (λ k. IsTable key.size (length s.limits) k s.present) (sym stamped) table);
+      looks = looks_in s.present (length s.closed) p.mode (looks_present key.size words s p.mode f.tables (f.looks p.number p at));
+      seen = omega arith;
+      clips = λ k clip e. subst (λ x. IsClip x.size s.present p.number clip) (sym seat.setting_is) (f.clips p.number p at k clip s.present e (f.tables.last idle));
+    } in
+    let carries = asks.3 v in
+    let P : Setting → Type 0 = λ x. CarriesPaintUnder x (table_of s.present) t.slot t.sheet t.reply (log_in p.mode) × RepliesUnder x (table_of s.present) p.number t.slot t.sheet t.reply in
+    let here = subst P seat.setting_is carries in
+    subst (λ x. PaintOk key x p.number t) is record {
+      rights = subst (λ l. LogIn key.size s.present p.number t.slot l) (sym asks.2)
+          (λ k i e. rights_log key.size s.present p.number t.slot t.stamp p.mode (f.rights p.number p at) asks.0 (asks.1 k i e) k i e);
+      carried = subst (λ l. CarriesPaintUnder key (table_of s.present) t.slot t.sheet t.reply l) (sym asks.2) here.0;
+      answered = here.1;
+    }
+
+left_items : (p : Client) (t : PaintCall) (e : ℕ) → stamp_in p.mode ≡ Some t.stamp → t.log ≡ log_in p.mode → client_items e (after_leave p t) ≡ client_items e p
+left_items p t e stamped log = append-nil (joined (call_items e) (p.own ++ Paint t ∷ [])) ∙ joined-append (call_items e) p.own (Paint t ∷ [])
+    ∙ ap (λ l. joined (call_items e) p.own ++ l) (append-nil (if t.stamp == e then t.log else []) ∙ ap (λ l. if t.stamp == e then l else []) log ∙ sym (open_as p.mode t.stamp e stamped))
+
+pub leaves : (key : Setting) (slots id : ℕ) (me : Mine) (t : PaintCall) → IsAlone me → Leaving (part_of me) t → Allows (Holds key) slots id me 0 (λ n. (n + (2 ^ 64 - 1)) % 2 ^ 64) (left t (step slots 0 1 0 none) me)
+leaves key slots id me t is asks = let P : Mine → Type 0 = λ m. Allows (Holds key) slots id m 0 (λ n. (n + (2 ^ 64 - 1)) % 2 ^ 64) (left t (step slots 0 1 0 none) m) in let p = part_of me in
     subst P (sym is) (client_steps key slots id p 0 (λ n. (n + (2 ^ 64 - 1)) % 2 ^ 64) (left t (step slots 0 1 0 none) (alone p, []))
     (λ words w f at small. let n : ℕ = get_or words 0 0 in let fits : n < 18446744073709551616 = small in let g = f.gate in let s = w.server in let q = after_leave p t in
-    let reads = stamped_reads p.mode t.stamp stamped in let is_busy : busy p ≡ 1 = reads_busy p.mode reads in let one = total_one busy w.clients p.number p at in
+    let reads = stamped_reads p.mode t.stamp asks.0 in let is_busy : busy p ≡ 1 = reads_busy p.mode reads in let one = total_one busy w.clients p.number p at in
     let less : (n + 18446744073709551615) % 18446744073709551616 ≡ n - 1 = omega arith in
     let idle = no_turn key words w p f at reads in let order = f.order p.number p at in let seen = order.seen_within in
-    let now : t.stamp ≡ length s.closed = stamp_now words (length s.closed) p.mode t.stamp (f.looks p.number p at) stamped in (
+    let now : t.stamp ≡ length s.closed = stamp_now words (length s.closed) p.mode t.stamp (f.looks p.number p at) asks.0 in (
       q,
       refl,
       rw less (fits_client key words (set words 0 (n - 1)) w p q f at (gate_set words (n - 1))
@@ -214,6 +258,9 @@ leaves key slots id me t is stamped = let P : Mine → Type 0 = λ m. Allows (Ho
             steps = steps_more p.own (Paint t) ∙ append-nil (steps_in p.own);
             clips = left_clips key words w p f at idle;
             looks = tt;
+            rights = tt;
+            paints = each_of (λ k a. CallOk key s.tables p.number a) p.own (Paint t) (f.paints p.number p at) (closed_paint key words w p t f at idle asks);
+            items = λ e. left_items p t e asks.0 asks.2;
           }),
       refl,
     )))

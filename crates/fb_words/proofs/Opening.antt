@@ -1,12 +1,15 @@
 -- The words as they are made meet the rule.
+use Rattle.qws_base.specs.declared.colours.Depth.TheVariants.{Full, Narrow}
+use Rattle.qws_base.specs.declared.colours.Depth.{Depth}
+use Rattle.fb_words.specs.Segments.{first_value}
 use Rattle.std.proofs.lemmas.Int.{ints}
 use Rattle.fb_words.proofs.Rows.{table_below}
 use Rattle.region_table.specs.Tables.{origin_from}
 use Rattle.region_table.specs.Opening.{opening_row_word, opening_word}
-use Rattle.std.proofs.Common.{◌≡◌, ℕ, zero, suc, nat_lt, ◌%◌, true, false, inr, if◌then◌else◌, ◌+◌, ◌-◌, ◌*◌, ◌<◌, ◌++◌, List, get_or, replicate, length, take, length-append, ap, ◌∙◌, [], ◌∷◌, refl, sym, subst, arith}
+use Rattle.std.proofs.Common.{◌≡◌, ℕ, zero, suc, nat_lt, ◌%◌, true, false, inr, if◌then◌else◌, ◌+◌, ◌-◌, ◌*◌, ◌<◌, ◌++◌, List, get_or, replicate, length, take, length-append, ap, ◌∙◌, [], ◌∷◌, refl, sym, subst, arith, ⊎_elim, ◌≤◌, Bool}
 use Rattle.std.proofs.lemmas.Bool.Decides.{nat_tests}
 use Rattle.std.proofs.lemmas.Bool.{false≢true}
-use Rattle.std.proofs.lemmas.List.{length-replicate, take_all}
+use Rattle.std.proofs.lemmas.List.{length-replicate, take_all, get_or-append_right, get_or-replicate}
 use Rattle.std.proofs.lemmas.List.FromFn.{length-map-range_with_len, get_or-map-range_with_len, map-range_with_len_more}
 use Rattle.std.proofs.Math.ListN.{get_or-append}
 use mathlib.Core.Option.{some, some-injective, some-ne-none}
@@ -18,7 +21,7 @@ use Rattle.qws_base.specs.Colours.{IsSceneColour}
 use Rattle.qws_base.specs.Points.{pixel_count, IsPlaced}
 use Rattle.qws_base.specs.Scenes.{Setting}
 use Rattle.fb_words.specs.declared.known.View.{View}
-use Rattle.fb_words.specs.Tables.{first_pixel, opening_words, opening_table, IsTable}
+use Rattle.fb_words.specs.Tables.{first_pixel, opening_words, opening_table, IsTable, IsLineWord}
 use Rattle.fb_words.specs.Views.{HeadView, total, the_server, opening_server}
 use Rattle.fb_words.specs.Rule.{clients_in, IsServer, Holds, opening_view}
 
@@ -48,19 +51,19 @@ at_table n key i lt = get_or-append (opening_words n) (replicate (pixel_count ke
 
 -- the opening table, of which only its length and its words are used
 
-length-opening : length opening_table ≡ first_pixel
+pub length-opening : length opening_table ≡ first_pixel
 unfolding opening_table
 length-opening = long_table first_pixel
 
-at_opening : (i : ℕ) → i < first_pixel → get_or opening_table i 0 ≡ opening_word i
+pub at_opening : (i : ℕ) → i < first_pixel → get_or opening_table i 0 ≡ opening_word i
 unfolding opening_table
 at_opening i lt = table_at first_pixel i lt
 
-at_row : (s k : ℕ) → s < 33 → k < 260 → get_or opening_table (2052 + 260 * s + k) 0 ≡ opening_row_word k
+pub at_row : (s k : ℕ) → s < 33 → k < 260 → get_or opening_table (2052 + 260 * s + k) 0 ≡ opening_row_word k
 at_row s k few low = let i : ℕ = 2052 + 260 * s + k in let far : nat_lt i 2052 ≡ false = grind (arith, nat_tests) in let place : (i - 2052) % 260 ≡ k = omega arith in
     at_opening i (omega arith) ∙ ap (λ b. if b then 0 else opening_row_word ((i - 2052) % 260)) far ∙ ap opening_row_word place
 
-first_table : (size : Sides) → IsScreen size → IsTable size 0 0 opening_table
+pub first_table : (size : Sides) → IsScreen size → IsTable size 0 0 opening_table
 first_table size screen = record {
   stamp_is = at_opening 1 (omega arith);
   revisions = λ s lt. let r = at_row s 1 lt (omega arith) in omega arith;
@@ -87,6 +90,27 @@ first_table size screen = record {
 only_table : (e : ℕ) (t : List ℕ) → get_elem? (opening_table ∷ []) e ≡ some t → (e ≡ 0) × (opening_table ≡ t)
 only_table zero t at = (refl, some-injective opening_table t at)
 only_table (suc e) t at = absurd (some-ne-none t (sym at))
+
+-- the opening value of a line word
+first_line : (n : ℕ) (key : Setting) (x : ℕ) → n ≡ first_pixel → IsLineWord x → x < n + pixel_count key.size → get_or (words_of n key) x 0 ≡ first_value key x
+first_line n key x is far lt = ⊎_elim
+    (λ (a : (1028 ≤ x) × (x < 2052)). let hi = a.1 in let below : nat_lt x 10632 ≡ true = grind (arith, nat_tests) in let low : nat_lt x 2052 ≡ true = grind (arith, nat_tests) in
+    at_table n key x (omega arith) ∙ ap (λ b. if b then 0 else opening_row_word ((x - 2052) % 260)) low ∙ ap (λ b. if b then 0 else key.backdrop) (sym below))
+    (λ (b : 10632 ≤ x). let above : nat_lt x 10632 ≡ false = grind (arith, nat_tests) in
+    get_or-append_right (opening_words n) (replicate (pixel_count key.size) key.backdrop) n x 0 (long_table n) (omega arith) ∙ get_or-replicate (pixel_count key.size) (x - n) key.backdrop 0 (omega arith)
+    ∙ ap (λ b. if b then 0 else key.backdrop) (sym above))
+    far
+
+zero_colour : (d : Depth) → IsSceneColour d 0
+zero_colour Full = omega arith
+zero_colour Narrow = omega arith
+
+first_colour : (key : Setting) (x : ℕ) → IsSceneColour key.depth key.backdrop → IsSceneColour key.depth (first_value key x)
+first_colour key x colour = go (nat_lt x 10632)
+  where
+    go : (b : Bool) → IsSceneColour key.depth (if b then 0 else key.backdrop)
+    go true = zero_colour key.depth
+    go false = colour
 
 opens_at : (n : ℕ) (key : Setting) → n ≡ first_pixel → 0 < n → IsScreen key.size → IsSceneColour key.depth key.backdrop → Holds key (opening (words_of n key) [] (opening_view key))
 opens_at n key is positive screen colour = record {
@@ -118,6 +142,11 @@ opens_at n key is positive screen colour = record {
     };
     clips = λ c p e. absurd (some-ne-none p (sym e));
     looks = λ c p e. absurd (some-ne-none p (sym e));
+    rights = λ c p e. absurd (some-ne-none p (sym e));
+    paints = λ c p e. absurd (some-ne-none p (sym e));
+    steps = λ e turn t u at_turn. absurd (some-ne-none turn (sym at_turn));
+    quiet = λ _. refl;
+    lines = λ x far lt. let v = first_line n key x is far (subst (λ k. x < k) (long_words n key) lt) in record { is_written = v; shows = tt; colour = subst (IsSceneColour key.depth) (sym v) (first_colour key x colour) };
   };
 }
 

@@ -1,5 +1,8 @@
 -- A client's seat leaves the head's, or its part goes to the head's. The world stays, or gains a client.
-use Rattle.std.proofs.Common.{◌≡◌, ℕ, zero, suc, ◌+◌, ◌<◌, ◌≤◌, ◌≢◌, ◌⊎◌, ◌==◌, nat_lt, if◌then◌else◌, ne_eqb, Bool, true, false, List, [], ◌∷◌, ◌++◌, length, set, length-append, sym, refl, ap, ◌∙◌, subst, inl, inr, ⊎_elim, arith, Option, Some, None}
+use Rattle.fb_words.proofs.Joining.{joined-append, upto_same}
+use Rattle.fb_words.specs.Segments.{joined, client_items, server_items, segment, line, LineOk}
+use Rattle.fb_words.specs.Lines.{on}
+use Rattle.std.proofs.Common.{◌≡◌, ℕ, zero, suc, ◌+◌, ◌<◌, ◌≤◌, ◌≢◌, ◌⊎◌, ◌==◌, nat_lt, if◌then◌else◌, ne_eqb, Bool, true, false, List, [], ◌∷◌, ◌++◌, length, set, length-append, sym, refl, ap, ◌∙◌, subst, inl, inr, ⊎_elim, arith, Option, Some, None, append-nil, slice_index}
 use Rattle.std.proofs.lemmas.Bool.Decides.{nat_tests}
 use mathlib.Core.Option.{some, some-ne-none}
 use lib.ListN.{get_elem?}
@@ -14,7 +17,7 @@ use Rattle.qws_base.specs.Scenes.{Setting}
 use Rattle.fb_words.specs.Tables.{IsTable}
 use Rattle.qws_base.specs.declared.journals.BookEntry.{BookEntry}
 use Rattle.fb_words.specs.Views.{total, is_client, alone, busy, reading, only, head_view, without, client_of, nothing, both_views, the_server, steps_in, books_in}
-use Rattle.fb_words.specs.Rule.{World, clients_in, a_server, servers_in, IsServer, Spread, SeatOk, OrderOk, step_call, steps_of, ClipsOk, LooksOk, Fits, Holds}
+use Rattle.fb_words.specs.Rule.{World, clients_in, a_server, servers_in, IsServer, Spread, SeatOk, OrderOk, step_call, steps_of, TablesOk, ClipsOk, LooksOk, Fits, Holds, OpenRights, PaintsOk}
 use Rattle.fb_words.specs.Steps.{fresh, with_limit}
 use Rattle.fb_words.proofs.Totals.{total_set, total_snoc, total_append, total_two}
 use Rattle.fb_words.proofs.Places.{each_of}
@@ -140,6 +143,11 @@ none_yet c n [] away = refl
 none_yet c n (t ∷ ts) away = let r = none_yet c (n + 1) ts (λ k u e. away (suc k) u e) in
     ap (λ b. if b then step_call (n + 1) t ∷ steps_of c (n + 1) ts else steps_of c (n + 1) ts) (ne_eqb t.client c (away 0 t refl)) ∙ r
 
+admitted_line : (x : ℕ) (s : Server) (cs : List Client) (limit : ℕ) → line x (with_limit s limit) (cs ++ fresh s.setting (length s.limits) limit ∷ []) ≡ line x s cs
+admitted_line x s cs limit = let q = fresh s.setting (length s.limits) limit in
+    upto_same (segment x (with_limit s limit) (cs ++ q ∷ [])) (segment x s cs) (suc (length s.closed))
+    (λ e le. ap (λ z. on x (server_items s e) ++ z) (joined-append (λ r. on x (client_items e r)) cs (q ∷ []) ∙ append-nil (joined (λ r. on x (client_items e r)) cs)))
+
 more_admitted : (size : Sides) (n m stamp : ℕ) (t : List ℕ) → n ≤ m → IsTable size n stamp t → IsTable size m stamp t
 more_admitted size n m stamp t le ok = record {
   stamp_is = ok.stamp_is;
@@ -173,6 +181,11 @@ admit_fits key words s cs limit f room = let q = fresh s.setting (length s.limit
       tables = let ok = f.tables in record { wide = ok.wide; shown = ok.shown; long = ok.long; first = ok.first; last = ok.last; well = λ e t at. more_admitted key.size (length s.limits) (length (s.limits ++ limit ∷ [])) e t (omega arith) (ok.well e t at); next = ok.next };
       clips = each_of (ClipsOk key.size (with_limit s limit)) cs q f.clips (λ k clip t e at. absurd (some-ne-none clip (sym e)));
       looks = each_of (λ c p. LooksOk words (length s.closed) p.mode) cs q f.looks tt;
+      rights = each_of (λ c p. OpenRights key.size s.present c p.mode) cs q f.rights tt;
+      paints = each_of (PaintsOk key s) cs q f.paints (λ k a e. absurd (some-ne-none a (sym e)));
+      steps = f.steps;
+      quiet = f.quiet;
+      lines = λ x far lt. subst (LineOk key x (slice_index words x)) (sym (admitted_line x s cs limit)) (f.lines x far lt);
     }
 
 -- a new client's seat leaves the head's

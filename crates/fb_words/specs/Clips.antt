@@ -6,6 +6,7 @@ use Rattle.qws_base.specs.Sides.{Sides}
 use Rattle.qws_base.specs.Points.{pixel_count}
 use Rattle.region_table.specs.Numbers.{row_word, IsTableWord}
 use Rattle.region_table.specs.Packing.{unpacked}
+use Rattle.fb_words.specs.declared.known.Item.{Item}
 use Rattle.fb_words.specs.declared.known.Looked.{Looked}
 use Rattle.fb_words.specs.declared.known.KeptClip.{KeptClip}
 use Rattle.fb_words.specs.declared.known.Mode.{Mode}
@@ -108,6 +109,21 @@ pub record IsClip (size : Sides) (t : List ℕ) (c : ℕ) (clip : KeptClip) : Ty
 
 abbrev pub LooksTrue : List ℕ → List Looked → Type 0
 LooksTrue words looked = (k : ℕ) (l : Looked) → get_elem? looked k ≡ some l → IsTableWord l.word × (slice_index words l.word ≡ l.value)
+
+abbrev pub stamp_in : Mode → Option ℕ
+stamp_in Idle = None
+stamp_in Refused = None
+stamp_in (Reading stamp slot looked log) = stamp
+
+abbrev pub slot_in : Mode → Option ℕ
+slot_in Idle = None
+slot_in Refused = None
+slot_in (Reading stamp slot looked log) = slot
+
+abbrev pub log_in : Mode → List Item
+log_in Idle = []
+log_in Refused = []
+log_in (Reading stamp slot looked log) = log
 
 abbrev pub looked_in : Mode → List Looked
 looked_in Idle = []

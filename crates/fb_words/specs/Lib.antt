@@ -4,5 +4,7 @@ pub mod Sessions
 pub mod Tables
 pub mod Clips
 pub mod Views
+pub mod Segments
+pub mod Rights
 pub mod Rule
 pub mod Steps

@@ -9,6 +9,7 @@ use Rattle.qws_base.specs.Colours.{IsSceneColour}
 use Rattle.qws_base.specs.Scenes.{Setting}
 use Rattle.region_table.specs.Numbers.{IsTableWord}
 use Rattle.fb_words.specs.declared.known.StepCall.{StepCall}
+use Rattle.fb_words.specs.declared.known.PaintCall.{PaintCall}
 use Rattle.fb_words.specs.declared.known.KeptClip.{KeptClip}
 use Rattle.fb_words.specs.declared.known.Mode.{Mode}
 use Rattle.fb_words.specs.declared.known.Mode.TheVariants.{Idle, Refused, Reading}
@@ -18,7 +19,10 @@ use Rattle.fb_words.specs.declared.known.Client.{Client}
 use Rattle.fb_words.specs.declared.known.Closed.{Closed}
 use Rattle.fb_words.specs.declared.known.Server.{Server}
 use Rattle.fb_words.specs.declared.known.View.{View}
-use Rattle.fb_words.specs.Tables.{first_pixel, opening_table, IsTable, Follows}
+use Rattle.fb_words.specs.Tables.{first_pixel, opening_table, table_of, IsLineWord, IsTable, Follows}
+use Rattle.fb_words.specs.Carries.{CarriesStep, CarriesPaintUnder, RepliesUnder}
+use Rattle.fb_words.specs.Segments.{line, LineOk}
+use Rattle.fb_words.specs.Rights.{LogIn}
 use Rattle.fb_words.specs.Clips.{IsClip, LooksTrue}
 use Rattle.fb_words.specs.Views.{total, is_client, busy, reading, shut, is_writing, steps_in, opening_server}
 
@@ -117,6 +121,37 @@ LooksOk words closed Idle = ⊤
 LooksOk words closed Refused = ⊤
 LooksOk words closed (Reading stamp slot looked log) = LooksTrue words looked × IsStamp closed stamp × IsSlot slot
 
+-- rights of a paint: each Pick and Put of an open turn lies on a word that the present table gives its slot
+abbrev pub OpenRights : Sides → List ℕ → ℕ → Mode → Type 0
+OpenRights size t c Idle = ⊤
+OpenRights size t c Refused = ⊤
+OpenRights size t c (Reading None slot looked log) = log ≡ []
+OpenRights size t c (Reading (Some e) None looked log) = log ≡ []
+OpenRights size t c (Reading (Some e) (Some s) looked log) = LogIn size t c s log
+
+-- rights of a paint, and carried turns: the same of a closed turn under the table of its stamp, and its log carries its
+-- paint with the paint's reply
+pub record PaintOk (setting : Setting) (t : List ℕ) (c : ℕ) (p : PaintCall) : Type 0 where
+  pub rights : LogIn setting.size t c p.slot p.log
+  pub carried : CarriesPaintUnder setting (table_of t) p.slot p.sheet p.reply p.log
+  pub answered : RepliesUnder setting (table_of t) c p.slot p.sheet p.reply
+
+abbrev pub CallOk : Setting → List (List ℕ) → ℕ → Call → Type 0
+CallOk setting tables c (Step s) = ⊤
+CallOk setting tables c (Paint p) = (t : List ℕ) → get_elem? tables p.stamp ≡ some t → PaintOk setting t c p
+
+abbrev pub PaintsOk : Setting → Server → ℕ → Client → Type 0
+PaintsOk setting s c p = (k : ℕ) (a : Call) → get_elem? p.own k ≡ some a → CallOk setting s.tables c a
+
+-- carried turns of the server: the log of each carries its step from the table before it to the one that it left
+abbrev pub StepsOk : Setting → Server → Type 0
+StepsOk setting s = (e : ℕ) (turn : Closed) (t u : List ℕ) → get_elem? s.closed e ≡ some turn → get_elem? s.tables e ≡ some t → get_elem? s.tables (e + 1) ≡ some u
+    → CarriesStep setting (table_of t) (table_of u) turn.command turn.reply turn.log
+
+-- line values
+abbrev pub LinesOk : Setting → List ℕ → Server → List Client → Type 0
+LinesOk setting words s cs = (x : ℕ) → IsLineWord x → x < length words → LineOk setting x (slice_index words x) (line x s cs)
+
 -- the words fit the world
 pub record Fits (key : Setting) (words : List ℕ) (w : World) : Type 0 where
   -- the setting
@@ -140,6 +175,14 @@ pub record Fits (key : Setting) (words : List ℕ) (w : World) : Type 0 where
   pub clips : (c : ℕ) (p : Client) → get_elem? w.clients c ≡ some p → ClipsOk key.size w.server c p
   -- looked words
   pub looks : (c : ℕ) (p : Client) → get_elem? w.clients c ≡ some p → LooksOk words (length w.server.closed) p.mode
+  -- rights of a paint
+  pub rights : (c : ℕ) (p : Client) → get_elem? w.clients c ≡ some p → OpenRights key.size w.server.present c p.mode
+  -- rights of a paint, and carried turns
+  pub paints : (c : ℕ) (p : Client) → get_elem? w.clients c ≡ some p → PaintsOk key w.server c p
+  pub steps : StepsOk key w.server
+  -- line values
+  pub quiet : is_writing w.server.mode ≡ false → w.server.log ≡ []
+  pub lines : LinesOk key words w.server w.clients
 
 pub record Holds (key : Setting) (s : State (Unit {0}) View) : Type 0 where
   pub world : World

@@ -27,6 +27,22 @@ impl Play<(), View> for Looks {
     ghost then = { looked_at };
 }
 
+pub(crate) struct Picks;
+
+impl Play<(), View> for Picks {
+    ghost use Rattle.fb_words.specs.Steps.{picked};
+
+    ghost then = { picked };
+}
+
+pub(crate) struct Puts;
+
+impl Play<(), View> for Puts {
+    ghost use Rattle.fb_words.specs.Steps.{put};
+
+    ghost then = { put };
+}
+
 /// The turn that a leave closes.
 pub(crate) trait Turn {
     ghost use Rattle.fb_words.specs.declared.known.PaintCall.{PaintCall};

@@ -1,14 +1,15 @@
-use Rattle.std.proofs.Common.{rules, Some, sym, ap, ◌∙◌}
-use Rattle.fb_words.specs.Views.{book_entry}
-use Rattle.fb_words.specs.Steps.{stamp_in}
-use Rattle.fb_words.proofs.Looking.{leaves, left_pass}
+use Rattle.fb_words.specs.Clips.{stamp_in}
+use Rattle.std.proofs.Common.{rules, ◌≡◌, Some, sym, ap, ◌∙◌, subst, refl}
+use Rattle.fb_words.specs.Views.{PassView, book_entry}
+use Rattle.fb_words.proofs.Looking.{leaves, left_pass, Leaving}
 use Rattle.fb_words.proofs.screen.Screen.leave_as.Goals as goal
 
 pub fetch_sub-requires : goal.fetch_sub-requires
-fetch_sub-requires g c = (
+fetch_sub-requires g c = let P : PassView → Type 0 = λ h. Leaving h.client g.T.Turn.turn in (
   ap (λ h. h.screen.table) c.pass.view_is ∙ ap (λ s. s.table) (c.requires.screen ∙ sym c.self.view_is),
   search rules,
-  leaves _ _ _ _ g.T.Turn.turn c.pass.invariant.0 (ap (λ h. stamp_in h.client.mode) c.pass.view_is ∙ c.requires.entry.stamp ∙ ap (λ t. Some t.stamp) c.requires.turn),
+  leaves _ _ _ _ g.T.Turn.turn c.pass.invariant.0
+      (subst P (sym c.pass.view_is) (subst (λ t. Leaving c.args.pass.now.client t) c.requires.turn (c.requires.entry.stamp, c.requires.entry.slot, refl, c.requires.carries))),
 )
 
 pub invariant_of-pass : goal.invariant_of-pass

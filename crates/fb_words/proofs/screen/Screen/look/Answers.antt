@@ -1,5 +1,7 @@
-use Rattle.std.proofs.Common.{sym, ap, ◌∙◌, subst, arith}
-use Rattle.fb_words.specs.Clips.{Sees}
+use Rattle.std.proofs.Common.{rules, ◌≡◌, ℕ, ◌+◌, ◌<◌, ◌≤◌, Option, Some, sym, ap, ◌∙◌, subst, arith}
+use Rattle.region_table.specs.Numbers.{row_word}
+use Rattle.fb_words.specs.declared.known.KeptClip.{KeptClip}
+use Rattle.fb_words.specs.Clips.{look_of, looked_in, kept, Sees}
 use Rattle.fb_words.specs.Steps.{after_look}
 use Rattle.fb_words.specs.Views.{PassView, reading}
 use Rattle.fb_words.proofs.Rows.{table_below}

@@ -7,5 +7,5 @@ pub fetch_sub-requires : goal.fetch_sub-requires
 fetch_sub-requires c = (
   ap (λ h. h.screen.table) c.pass.view_is ∙ ap (λ s. s.table) (c.requires.screen ∙ sym c.self.view_is),
   search rules,
-  retreats _ _ _ _ c.pass.invariant.0 (ap busy_mode (ap (λ h. h.client.mode) c.pass.view_is ∙ c.requires.refused)),
+  retreats _ _ _ _ c.pass.invariant.0 (ap (λ h. h.client.mode) c.pass.view_is ∙ c.requires.refused),
 )
