@@ -7,3 +7,5 @@ mod channel_rows;
 mod script_rows;
 #[cfg(test)]
 mod shape_rows;
+#[cfg(test)]
+mod table_rows;

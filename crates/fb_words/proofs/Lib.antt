@@ -1,0 +1,17 @@
+pub mod Places
+pub mod Totals
+pub mod Spreads
+pub mod Rows
+pub mod Joining
+pub mod Cells
+pub mod Painting
+pub mod Sitting
+pub mod Gate
+pub mod Serving
+pub mod Looking
+pub mod Adding
+pub mod Opening
+pub mod Carrying
+pub mod Law
+pub mod Standing
+pub mod Sessions

@@ -1,0 +1,27 @@
+//! The law of carrying. Each function does nothing; its clause is the law.
+ghost use Rattle.fb_words.specs.Carries.{StepLaw, PaintLaw};
+ghost use Rattle.fb_words.specs.Sessions.{SessionLaw, PictureLaw};
+
+/// Where words stand for a scene that is the backdrop outside all rows, the words after a log that carries a step stand
+/// for the scene after the step.
+pub fn steps_are_carried()
+    ensures { StepLaw }
+{}
+
+/// Where words stand for a scene, the words after a log that carries a paint with its reply stand for the scene after the
+/// paint.
+pub fn paints_are_carried()
+    ensures { PaintLaw }
+{}
+
+/// Where turns follow each other, each carrying its entry, their entries are a legal history, and the words after all
+/// their logs stand for the scene after it.
+pub fn sessions_are_carried()
+    ensures { SessionLaw }
+{}
+
+/// The words that a screen opens with are those of the opening world. Where words are those of a world, the colours of
+/// their framebuffer words are its shown picture.
+pub fn pictures_are_shown()
+    ensures { PictureLaw }
+{}
