@@ -1,5 +1,5 @@
 -- What a source in memory and a sink in memory show of themselves.
-use Rattle.std.specs.Prelude.{ℕ, List}
+use Rattle.std.specs.Prelude.{ℕ, nat_lt, nat_le, Bool, ◌&&◌, List, length}
 
 -- the bytes that are left, the most that one call gives, the calls so far, those of them that failed, and the numbers of
 -- the calls that are to fail
@@ -19,3 +19,7 @@ pub record Store : Type 0 where
   pub calls : ℕ
   pub faults : ℕ
   pub failing : List ℕ
+
+-- there are bytes to write, and no room for one of them
+abbrev pub is_full : Store → List ℕ → Bool
+is_full store piece = nat_lt 0 (length piece) && nat_le store.room (length store.written)

@@ -1,5 +1,5 @@
 -- The picture that is shown: the scene, with the cursor above, in colours of 24 bits.
-use Rattle.std.specs.Prelude.{ℕ, ◌+◌, ◌*◌, ◌/◌, ◌%◌, pos, ◌-ℤ◌, nat_abs, ◌&&◌, List, map, Option, None, Some, slice_index, if◌then◌else◌}
+use Rattle.std.specs.Prelude.{ℕ, ◌≡◌, ◌≤◌, ◌⊎◌, ◌+◌, ◌*◌, ◌/◌, ◌%◌, pos, ◌-ℤ◌, nat_abs, ◌&&◌, List, length, Option, None, Some, slice_index, if◌then◌else◌}
 use Rattle.std.specs.Option.{option_map_or}
 use Rattle.qws_base.specs.Colours.{shown_colour}
 use Rattle.qws_base.specs.Inks.{ink_after}
@@ -10,6 +10,11 @@ use Rattle.qws_base.specs.declared.points.Point.{Point}
 use Rattle.qws_base.specs.declared.windows.Cursor.{Cursor}
 use Rattle.qws_base.specs.declared.inks.Ink.{Ink}
 use Rattle.qws_base.specs.declared.inks.Ink.TheVariants.{Blend}
+
+-- the shape of a cursor: both sides in 1..32, or both 0, with a cell for each place
+pub record IsShape (cursor : Cursor) : Type 0 where
+  pub sides : ((1 ≤ cursor.w) × (cursor.w ≤ 32) × (1 ≤ cursor.h) × (cursor.h ≤ 32)) ⊎ ((cursor.w ≡ 0) × (cursor.h ≡ 0))
+  pub cells : length cursor.cells ≡ cursor.w * cursor.h
 
 -- the column and the row of the cell that a shown cursor has on a point
 abbrev pub cell_on : Cursor → Point → Option (ℕ × ℕ)

@@ -1,5 +1,5 @@
 -- The state of the server, and what a command does to it.
-use Rattle.std.specs.Prelude.{ℕ, pos, nat_le, nat_lt, Bool, true, false, not, List, [], ◌∷◌, ◌++◌, map, slice_index_or, Option, None, Some, if◌then◌else◌}
+use Rattle.std.specs.Prelude.{ℕ, nat_lt, Bool, true, false, not, List, [], ◌∷◌, ◌++◌, map, slice_index_or, Option, None, Some, if◌then◌else◌}
 use Rattle.std.specs.List.{find, filter, range_with_len}
 use Rattle.qws_base.specs.Points.{origin_zero}
 use Rattle.qws_base.specs.Windows.{has_slot, is_live}
@@ -42,9 +42,12 @@ revision_of state slot = slice_index_or state.revisions slot 1
 unfoldable pub free_slot : List WindowView → Option ℕ
 free_slot windows = find (λ slot. not (is_live windows slot)) (range_with_len 0 32)
 
+abbrev pub is_above : ℕ → WindowView → Bool
+is_above layer window = nat_lt layer window.layer
+
 -- at the front of its layer: behind the windows of higher layers, before all others
 abbrev pub with_front : WindowView → List WindowView → List WindowView
-with_front new windows = filter (λ w. nat_lt new.layer w.layer) windows ++ new ∷ filter (λ w. nat_le w.layer new.layer) windows
+with_front new windows = filter (is_above new.layer) windows ++ new ∷ filter (λ w. not (is_above new.layer w)) windows
 
 -- a new window: at (0, 0), without rectangles
 abbrev pub new_window : ℕ → ℕ → ℕ → WindowView

@@ -1,5 +1,8 @@
 //! Sources and sinks in memory: some whose calls fail as they are told, and some that never fail.
-ghost use Rattle.std.specs.Prelude.{◌≡◌, ◌<◌, ◌≤◌, ◌+◌, ℕ, List, [], Some, None, OnOk, IfOk};
+ghost use Rattle.std.specs.Prelude.{◌≡◌, ◌<◌, ◌≤◌, ◌+◌, ◌-◌, ◌==◌, ◌||◌, ℕ, List, [], Some, None, OnOk, OnErr, IfOk, is_err, length, take, min};
+ghost use Rattle.std.specs.List.{list_any};
+ghost use Rattle.qws_base.specs.Outside.{Rose, GaveFirst, left_after, with_bytes};
+ghost use Rattle.qws_base.specs.Memory.{is_full};
 
 use crate::lists::OutOfMemory;
 use crate::streams::{Failed, Sink, Source};
@@ -51,7 +54,22 @@ impl Source for MemSource {
 
     ghost reads = { λ s. s.calls };
 
-    fn read(&mut self, piece: &mut [u8]) -> Result<usize, Failed> {
+    fn read(&mut self, piece: &mut [u8]) -> Result<usize, Failed>
+        ensures within { IfOk result (λ n. n ≤ length piece.new) }
+        ensures gave { IfOk result (λ n. GaveFirst (Some self.old.left) piece.new n) }
+        ensures left { IfOk result (λ n. Some self.new.left ≡ left_after n (Some self.old.left)) }
+        ensures kept { OnErr result (Some self.new.left ≡ Some self.old.left) }
+        ensures failed { OnErr result (Rose self.old.faults self.new.faults) }
+        ensures never_falls { self.old.faults ≤ self.new.faults }
+        ensures counted { self.new.calls ≤ self.old.calls + 1 }
+
+        // It gives as much as it may, and fails at just the calls that are to fail.
+        ensures whole_piece { IfOk result (λ n. n ≡ min (min (length piece.new) self.old.max_piece) (length self.old.left)) }
+        ensures as_told { is_err result ≡ list_any (λ call. call == self.new.calls) self.old.failing }
+        ensures call { self.new.calls ≡ min (self.old.calls + 1) 18446744073709551615 }
+        ensures settings { (self.new.max_piece ≡ self.old.max_piece) × (self.new.failing ≡ self.old.failing) }
+        ensures clean { OnOk result (self.new.faults ≡ self.old.faults) }
+    {
         self.calls = self.calls.saturating_add(1);
         if self.failing.contains(&self.calls) {
             self.faults = self.faults.saturating_add(1);
@@ -70,6 +88,7 @@ impl Source for MemSource {
 #[derive(Drop)]
 pub struct MemSink {
     bytes: Vec<u8>,
+    room: usize,
     max_piece: usize,
     failing: Vec<u64>,
     calls: u64,
@@ -77,14 +96,14 @@ pub struct MemSink {
 }
 
 impl Model for MemSink {
-    ghost use Rattle.std.specs.Prelude.{◌<◌, vec_capacity};
+    ghost use Rattle.std.specs.Prelude.{◌<◌, ◌≤◌, length, vec_capacity};
     ghost use Rattle.qws_base.specs.Memory.{Store};
 
     ghost Value = { Store };
 
-    ghost view = { λ s. record { written = s.bytes.items; room = vec_capacity s.bytes; max_piece = s.max_piece; calls = s.calls; faults = s.faults; failing = s.failing.items } };
+    ghost view = { λ s. record { written = s.bytes.items; room = s.room; max_piece = s.max_piece; calls = s.calls; faults = s.faults; failing = s.failing.items } };
 
-    ghost invariant = { λ s. 0 < s.max_piece };
+    ghost invariant = { λ s. (0 < s.max_piece) × (length s.bytes.items ≤ s.room) × (s.room ≤ vec_capacity s.bytes) };
 }
 
 impl MemSink {
@@ -104,6 +123,7 @@ impl MemSink {
         };
         Ok(MemSink {
             bytes,
+            room,
             max_piece,
             failing,
             calls: 0,
@@ -124,12 +144,26 @@ impl Sink for MemSink {
 
     ghost faults = { λ s. s.faults };
 
-    fn write(&mut self, piece: &[u8]) -> Result<usize, Failed> {
+    fn write(&mut self, piece: &[u8]) -> Result<usize, Failed>
+        ensures within { IfOk result (λ n. n ≤ length piece.now) }
+        ensures progress { IfOk result (λ n. 0 < length piece.now → 0 < n) }
+        ensures written { IfOk result (λ n. Some self.new.written ≡ with_bytes (take n piece.now) (Some self.old.written)) }
+        ensures kept { OnErr result (Some self.new.written ≡ Some self.old.written) }
+        ensures failed { OnErr result (Rose self.old.faults self.new.faults) }
+        ensures never_falls { self.old.faults ≤ self.new.faults }
+
+        // It takes as much as it may, and fails at just the calls that are to fail, and where the room is full.
+        ensures whole_piece { IfOk result (λ n. n ≡ min (min (length piece.now) self.old.max_piece) (self.old.room - length self.old.written)) }
+        ensures as_told { is_err result ≡ (is_full self.old piece.now || list_any (λ call. call == self.new.calls) self.old.failing) }
+        ensures call { self.new.calls ≡ min (self.old.calls + 1) 18446744073709551615 }
+        ensures settings { (self.new.room ≡ self.old.room) × (self.new.max_piece ≡ self.old.max_piece) × (self.new.failing ≡ self.old.failing) }
+        ensures clean { OnOk result (self.new.faults ≡ self.old.faults) }
+    {
         self.calls = self.calls.saturating_add(1);
         let n = piece
             .len()
             .min(self.max_piece)
-            .min(self.bytes.capacity() - self.bytes.len());
+            .min(self.room - self.bytes.len());
         let is_full = n == 0 && !piece.is_empty();
         if is_full || self.failing.contains(&self.calls) {
             self.faults = self.faults.saturating_add(1);

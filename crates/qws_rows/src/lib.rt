@@ -2,4 +2,6 @@
 #![tactic(auto)]
 
 #[cfg(test)]
+mod script_rows;
+#[cfg(test)]
 mod table_rows;

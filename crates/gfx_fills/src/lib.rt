@@ -1,0 +1,7 @@
+//! Filled rectangles as pictures.
+#![tactic(auto)]
+
+mod fills;
+mod parts;
+
+pub use fills::Fill;

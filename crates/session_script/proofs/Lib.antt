@@ -1,0 +1,5 @@
+pub mod Cuts
+pub mod Digits
+pub mod LineByLine
+pub mod Places
+pub mod Within
