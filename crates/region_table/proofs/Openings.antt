@@ -68,7 +68,7 @@ rows_fit k d below =
 
 pub opening_spellable : IsSpellable opening_table
 opening_spellable = record {
-  cursor = record { sides = inr (refl, refl); few_w = omega arith; few_h = omega arith; whole = refl; in_columns = omega arith; in_rows = omega arith };
+  cursor = record { shape = record { sides = inr (refl, refl); cells = refl }; in_columns = omega arith; in_rows = omega arith };
   whole = opening_length;
   rows = rows_fit;
 }

@@ -1,5 +1,5 @@
 -- The words of a table are read as that table.
-use Rattle.std.proofs.Common.{◌≡◌, ℕ, zero, suc, ◌+◌, ◌-◌, ◌*◌, ◌/◌, ◌%◌, ◌^◌, ◌<◌, ◌≤◌, ◌==◌, nat_lt, true, false, if◌then◌else◌, List, map, length, get_or, inl, inr, refl, sym, ap, ◌∙◌, subst, arith}
+use Rattle.std.proofs.Common.{⊎_elim, ◌≡◌, ℕ, zero, suc, ◌+◌, ◌-◌, ◌*◌, ◌/◌, ◌%◌, ◌^◌, ◌<◌, ◌≤◌, ◌==◌, nat_lt, true, false, if◌then◌else◌, List, map, length, get_or, inl, inr, refl, sym, ap, ◌∙◌, subst, arith}
 use Rattle.std.specs.Prelude.{slice_index}
 use Rattle.std.specs.List.{range_with_len}
 use Rattle.std.proofs.lemmas.Bool.{lt-ltb}
@@ -10,6 +10,7 @@ use Rattle.std.proofs.lemmas.List.{get_or-map}
 use Rattle.std.proofs.lemmas.List.Elements.{All-get_or}
 use Rattle.std.proofs.lemmas.List.FromFn.{get_or-map-range_with_len, fill_by_all}
 use Rattle.qws_base.specs.declared.points.Rect.{Rect}
+use Rattle.qws_base.specs.Shown.{IsShape}
 use Rattle.qws_base.specs.declared.windows.Cursor.{Cursor}
 use Rattle.region_table.specs.Numbers.{row_word, cell_word}
 use Rattle.region_table.specs.Packing.{IsPackable, packed, unpacked}
@@ -95,6 +96,12 @@ head_said words table index spell low high =
     spell.said index (inl (low, high)) (inl (omega arith))
     ∙ ap (λ b. if b then head_word_of table index else row_word_of (row_of table ((index - 2052) / 260)) ((index - 2052) % 260)) early
 
+few_sides : (cursor : Cursor) → IsShape cursor → (cursor.w ≤ 32) × (cursor.h ≤ 32)
+few_sides cursor ok = ⊎_elim
+    (λ (some : (1 ≤ cursor.w) × (cursor.w ≤ 32) × (1 ≤ cursor.h) × (cursor.h ≤ 32)). (some.1, some.3))
+    (λ (none : (cursor.w ≡ 0) × (cursor.h ≡ 0)). (omega (arith, none.0), omega (arith, none.1)))
+    ok.sides
+
 pos_left : (w h k : ℕ) → k < w * h → 0 < w
 pos_left zero h k below = absurd (omega arith)
 pos_left (suc w) h k below = omega arith
@@ -117,14 +124,14 @@ cells_read words table ok spell =
     let w : ℕ = table.cursor.w in
     let h : ℕ = table.cursor.h in
     let cells : List ℕ = table.cursor.cells in
-    sym (fill_by_all (λ k. words (cell_word (k % w) (k / w))) cells (w * h) 0 ok.whole (λ k below. sym (cell_read k below)))
+    sym (fill_by_all (λ k. words (cell_word (k % w) (k / w))) cells (w * h) 0 ok.shape.cells (λ k below. sym (cell_read k below)))
   where
     cell_read : (k : ℕ) → k < table.cursor.w * table.cursor.h → words (cell_word (k % table.cursor.w) (k / table.cursor.w)) ≡ get_or table.cursor.cells k 0
     cell_read k below =
         let w : ℕ = table.cursor.w in
         let h : ℕ = table.cursor.h in
-        let few_w : w ≤ 32 = ok.few_w in
-        let few_h : h ≤ 32 = ok.few_h in
+        let few_w : w ≤ 32 = (few_sides table.cursor ok.shape).0 in
+        let few_h : h ≤ 32 = (few_sides table.cursor ok.shape).1 in
         let some : 0 < w = pos_left w h k below in
         let a : ℕ = k % w in
         let b : ℕ = k / w in
@@ -148,8 +155,8 @@ cursor_read words table ok spell =
     let cursor : Cursor = table.cursor in
     let in_columns : cursor.x < 640 = ok.in_columns in
     let in_rows : cursor.y < 480 = ok.in_rows in
-    let few_w : cursor.w ≤ 32 = ok.few_w in
-    let few_h : cursor.h ≤ 32 = ok.few_h in
+    let few_w : cursor.w ≤ 32 = (few_sides cursor ok.shape).0 in
+    let few_h : cursor.h ≤ 32 = (few_sides cursor ok.shape).1 in
     let place : words 2 ≡ place_word cursor = head_said words table 2 spell (omega arith) (omega arith) in
     let shape : words 3 ≡ shape_word cursor = head_said words table 3 spell (omega arith) (omega arith) in
     let w : words 3 % 2 ^ 16 ≡ cursor.w = ap (λ n. n % 65536) shape ∙ omega arith in

@@ -1,8 +1,8 @@
 -- A table, the words that spell it, and the table that words spell.
-use Rattle.std.specs.Prelude.{◌≡◌, ℕ, ◌+◌, ◌-◌, ◌*◌, ◌/◌, ◌%◌, ◌^◌, ◌<◌, ◌≤◌, nat_lt, ◌==◌, ◌&&◌, pos, ◌+ℤ◌, ◌-ℤ◌, nat_abs, ◌⊎◌, List, [], map, length, All, Option, None, Some, slice_index, slice_index_or, if◌then◌else◌}
+use Rattle.std.specs.Prelude.{◌≡◌, ℕ, ◌+◌, ◌-◌, ◌*◌, ◌/◌, ◌%◌, ◌^◌, ◌<◌, ◌≤◌, nat_lt, ◌==◌, ◌&&◌, pos, ◌+ℤ◌, ◌-ℤ◌, nat_abs, List, [], map, length, All, Option, None, Some, slice_index, slice_index_or, if◌then◌else◌}
 use Rattle.std.specs.List.{range_with_len}
 use Rattle.qws_base.specs.Points.{origin_zero, IsPlaced}
-use Rattle.qws_base.specs.Shown.{cell_at}
+use Rattle.qws_base.specs.Shown.{IsShape, cell_at}
 use Rattle.qws_base.specs.declared.points.Point.{Point}
 use Rattle.qws_base.specs.declared.windows.Cursor.{Cursor}
 use Rattle.region_table.specs.Numbers.{row_word, cell_word}
@@ -64,12 +64,9 @@ word_of_table table index =
 
 -- ---- what has a place in the words
 
--- it has no cell, or 1 to 32 columns and rows of them; it is placed on the largest screen
+-- its place is on the largest screen
 pub record IsCursor (cursor : Cursor) : Type 0 where
-  pub sides : ((1 ≤ cursor.w) × (1 ≤ cursor.h)) ⊎ ((cursor.w ≡ 0) × (cursor.h ≡ 0))
-  pub few_w : cursor.w ≤ 32
-  pub few_h : cursor.h ≤ 32
-  pub whole : length cursor.cells ≡ cursor.w * cursor.h
+  pub shape : IsShape cursor
   pub in_columns : cursor.x < 640
   pub in_rows : cursor.y < 480
 
