@@ -1,7 +1,6 @@
 //! Scripts: which bytes are one, what they say, and what their calls mean.
-use gfx_painters::Paint;
-use qws_base::{Command, Depth, Picture, Reply};
-use session_script::{Call, Names, Script, ScriptStop};
+use qws_base::Depth;
+use session_script::{Script, ScriptStop};
 use std::alloc::Global;
 
 const EMPTY: &[u8] = b"screen 2 1 102030\nclients 0\nend\n";
@@ -20,7 +19,7 @@ fn is_script(alloc: Global, bytes: &[u8]) -> Result<bool, ScriptStop> {
 }
 
 #[test]
-fn whole_scripts(rt: HostRuntime) {
+fn whole_scripts(rt: HostRuntime) -> Result<(), ScriptStop> {
     let scripts: [(&[u8], bool); 27] = [
         (EMPTY, true),
         (CLIPPING, true),
@@ -54,6 +53,7 @@ fn whole_scripts(rt: HostRuntime) {
         let found = is_script(rt.alloc(), bytes)?;
         assert_eq!(rt; found, is_good, "{bytes:?}");
     }
+    Ok(())
 }
 
 // The script with one line among its calls.
@@ -62,7 +62,7 @@ fn framed(alloc: Global, line: &str) -> Result<String, ScriptStop> {
 }
 
 #[test]
-fn single_lines(rt: HostRuntime) {
+fn single_lines(rt: HostRuntime) -> Result<(), ScriptStop> {
     let lines = [
         ("0 create a 0", true),
         ("0 create a 1", true),
@@ -106,10 +106,11 @@ fn single_lines(rt: HostRuntime) {
         let found = is_script(rt.alloc(), text.as_bytes())?;
         assert_eq!(rt; found, is_good, "{line}");
     }
+    Ok(())
 }
 
 #[test]
-fn what_a_script_says(rt: HostRuntime) {
+fn what_a_script_says(rt: HostRuntime) -> Result<(), ScriptStop> {
     let script = Script::read(rt.alloc(), DEEP)?;
     assert_eq!(rt; script.depth(), Depth::Narrow);
     assert_eq!(rt; (script.size().w(), script.size().h()), (2, 1));
@@ -118,4 +119,5 @@ fn what_a_script_says(rt: HostRuntime) {
     assert_eq!(rt; (script.steps(0), script.paints(0)), (2, 1));
     assert_eq!(rt; (script.steps(1), script.paints(1)), (0, 0));
     assert_eq!(rt; script.calls(), 3);
+    Ok(())
 }
