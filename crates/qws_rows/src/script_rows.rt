@@ -5,9 +5,11 @@ use std::alloc::Global;
 
 const EMPTY: &[u8] = b"screen 2 1 102030\nclients 0\nend\n";
 
-const CLIPPING: &[u8] = b"screen 3 2 000000\nclients 1\n0 create a 0\n0 region a 1 0 0 0 1 2\n0 fill a -5 -5 20 20 copy ff8000\nend\n";
+const CLIPPING: &[u8] =
+    b"screen 3 2 000000\nclients 1\n0 create a 0\n0 region a 1 0 0 0 1 2\n0 fill a -5 -5 20 20 copy ff8000\nend\n";
 
-const DEEP: &[u8] = b"depth 16\nscreen 2 1 123456\nclients 1\n0 create a 0\n0 region a 0 0 1 0 1 1\n0 fill a 1 0 1 1 copy ff8000\nend\n";
+const DEEP: &[u8] =
+    b"depth 16\nscreen 2 1 123456\nclients 1\n0 create a 0\n0 region a 0 0 1 0 1 1\n0 fill a 1 0 1 1 copy ff8000\nend\n";
 
 // Whether bytes are a script.
 fn is_script(alloc: Global, bytes: &[u8]) -> Result<bool, ScriptStop> {
@@ -45,9 +47,15 @@ fn whole_scripts(rt: HostRuntime) -> Result<(), ScriptStop> {
         (b"screen 1 1 ffffff\nclients 1\nend\ne", false),
         (b"screen 1 1 ffffff \nclients 1\nend\n", false),
         (b"depth 15\nscreen 1 1 ffffff\nclients 1\nend\n", false),
-        (b"depth 16\ndepth 16\nscreen 1 1 ffffff\nclients 1\nend\n", false),
+        (
+            b"depth 16\ndepth 16\nscreen 1 1 ffffff\nclients 1\nend\n",
+            false,
+        ),
         (b"screen 1 1 ffffff\ndepth 16\nclients 1\nend\n", false),
-        (b"screen 1 1 ffffff\nclients 1\n0 create a 0\n0 create b 0\nend\n", false),
+        (
+            b"screen 1 1 ffffff\nclients 1\n0 create a 0\n0 create b 0\nend\n",
+            false,
+        ),
     ];
     for (bytes, is_good) in scripts {
         let found = is_script(rt.alloc(), bytes)?;
