@@ -1,14 +1,15 @@
 //! Scripts: which bytes are one, what they say, and what their calls mean.
-use gfx_painters::Paint;
-use qws_base::{Command, Depth, Picture, Reply};
-use session_script::{Call, Names, Script, ScriptStop};
+use qws_base::Depth;
+use session_script::{Script, ScriptStop};
 use std::alloc::Global;
 
 const EMPTY: &[u8] = b"screen 2 1 102030\nclients 0\nend\n";
 
-const CLIPPING: &[u8] = b"screen 3 2 000000\nclients 1\n0 create a 0\n0 region a 1 0 0 0 1 2\n0 fill a -5 -5 20 20 copy ff8000\nend\n";
+const CLIPPING: &[u8] =
+    b"screen 3 2 000000\nclients 1\n0 create a 0\n0 region a 1 0 0 0 1 2\n0 fill a -5 -5 20 20 copy ff8000\nend\n";
 
-const DEEP: &[u8] = b"depth 16\nscreen 2 1 123456\nclients 1\n0 create a 0\n0 region a 0 0 1 0 1 1\n0 fill a 1 0 1 1 copy ff8000\nend\n";
+const DEEP: &[u8] =
+    b"depth 16\nscreen 2 1 123456\nclients 1\n0 create a 0\n0 region a 0 0 1 0 1 1\n0 fill a 1 0 1 1 copy ff8000\nend\n";
 
 // Whether bytes are a script.
 fn is_script(alloc: Global, bytes: &[u8]) -> Result<bool, ScriptStop> {
@@ -20,7 +21,7 @@ fn is_script(alloc: Global, bytes: &[u8]) -> Result<bool, ScriptStop> {
 }
 
 #[test]
-fn whole_scripts(rt: HostRuntime) {
+fn whole_scripts(rt: HostRuntime) -> Result<(), ScriptStop> {
     let scripts: [(&[u8], bool); 27] = [
         (EMPTY, true),
         (CLIPPING, true),
@@ -46,14 +47,21 @@ fn whole_scripts(rt: HostRuntime) {
         (b"screen 1 1 ffffff\nclients 1\nend\ne", false),
         (b"screen 1 1 ffffff \nclients 1\nend\n", false),
         (b"depth 15\nscreen 1 1 ffffff\nclients 1\nend\n", false),
-        (b"depth 16\ndepth 16\nscreen 1 1 ffffff\nclients 1\nend\n", false),
+        (
+            b"depth 16\ndepth 16\nscreen 1 1 ffffff\nclients 1\nend\n",
+            false,
+        ),
         (b"screen 1 1 ffffff\ndepth 16\nclients 1\nend\n", false),
-        (b"screen 1 1 ffffff\nclients 1\n0 create a 0\n0 create b 0\nend\n", false),
+        (
+            b"screen 1 1 ffffff\nclients 1\n0 create a 0\n0 create b 0\nend\n",
+            false,
+        ),
     ];
     for (bytes, is_good) in scripts {
         let found = is_script(rt.alloc(), bytes)?;
         assert_eq!(rt; found, is_good, "{bytes:?}");
     }
+    Ok(())
 }
 
 // The script with one line among its calls.
@@ -62,7 +70,7 @@ fn framed(alloc: Global, line: &str) -> Result<String, ScriptStop> {
 }
 
 #[test]
-fn single_lines(rt: HostRuntime) {
+fn single_lines(rt: HostRuntime) -> Result<(), ScriptStop> {
     let lines = [
         ("0 create a 0", true),
         ("0 create a 1", true),
@@ -106,10 +114,11 @@ fn single_lines(rt: HostRuntime) {
         let found = is_script(rt.alloc(), text.as_bytes())?;
         assert_eq!(rt; found, is_good, "{line}");
     }
+    Ok(())
 }
 
 #[test]
-fn what_a_script_says(rt: HostRuntime) {
+fn what_a_script_says(rt: HostRuntime) -> Result<(), ScriptStop> {
     let script = Script::read(rt.alloc(), DEEP)?;
     assert_eq!(rt; script.depth(), Depth::Narrow);
     assert_eq!(rt; (script.size().w(), script.size().h()), (2, 1));
@@ -118,4 +127,5 @@ fn what_a_script_says(rt: HostRuntime) {
     assert_eq!(rt; (script.steps(0), script.paints(0)), (2, 1));
     assert_eq!(rt; (script.steps(1), script.paints(1)), (0, 0));
     assert_eq!(rt; script.calls(), 3);
+    Ok(())
 }
