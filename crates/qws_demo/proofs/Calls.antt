@@ -1,5 +1,5 @@
 -- The call of a line, and what it makes of the world.
-use Rattle.std.proofs.Common.{◌≡◌, ℕ, ◌+◌, ◌<◌, ◌≤◌, List, [], ◌∷◌, length, take, get_or, Option, None, Some, Bool, true, false, cond, refl, ap, sym, ◌∙◌, subst, arith}
+use Rattle.std.proofs.Common.{◌≡◌, ℕ, ◌<◌, ◌≤◌, List, [], ◌∷◌, length, take, get_or, Option, None, Some, Bool, true, false, cond, ap, sym, ◌∙◌, subst, arith}
 use Rattle.std.specs.Prelude.{slice_get}
 use Rattle.std.specs.List.{filter}
 use Rattle.std.specs.Option.{option_map}
@@ -19,7 +19,7 @@ use Rattle.session_script.specs.declared.names.Call.{Call}
 use Rattle.qws_demo.specs.declared.answers.Answer.{Answer}
 use Rattle.qws_demo.specs.declared.callers.Caller.{Caller}
 use Rattle.qws_demo.specs.Runs.{entry_in, places_in, front, line_at, line_entry}
-use Rattle.qws_demo.specs.Steps.{answer_of, learned_by_answer, IsMakeable, IsCaller, AreCallers, IsWorld, IsNextWorld}
+use Rattle.qws_demo.specs.Steps.{learned_by_answer, IsMakeable, IsCaller, AreCallers, IsWorld}
 use Rattle.qws_demo.proofs.Front.{no_line, same_count, front_clients}
 use Rattle.qws_demo.proofs.Turns.{next_line, has_next}
 use Rattle.qws_demo.proofs.Plannable.{makeable}

@@ -1,8 +1,8 @@
 -- The comments of a file name its entries.
-use Rattle.std.proofs.Common.{◌≡◌, ℕ, ◌+◌, ◌<◌, ◌^◌, ℤ, pos, negsuc, nat_abs, List, [], ◌∷◌, ◌++◌, map, length, drop, suc, Bool, true, false, cond, not, ◌&&◌, ◌==◌, refl, ap, sym, ◌∙◌, subst, arith, append_assoc}
+use Rattle.std.proofs.Common.{◌≡◌, ℕ, ◌<◌, ◌^◌, ℤ, pos, negsuc, nat_abs, List, [], ◌∷◌, ◌++◌, map, length, suc, Bool, true, false, cond, not, ◌&&◌, ◌==◌, refl, ap, ◌∙◌, arith, append_assoc}
 use Rattle.std.specs.Prelude.{All}
 use lib.Chars.{codes}
-use Rattle.std.specs.List.{slice_split, list_all, flat_map, onto_first}
+use Rattle.std.specs.List.{list_all, flat_map, onto_first}
 use Rattle.std.specs.Char.{digit_value}
 use Rattle.std.specs.Fmt.{decimal, signed_decimal}
 use Rattle.std.specs.Str.Parse.{AllDigits, digits_value}
@@ -25,7 +25,7 @@ use Rattle.qws_demo.specs.declared.answers.Answer.{Answer}
 use Rattle.qws_demo.specs.declared.answers.Answer.TheVariants.{Step as StepAnswer, Paint as PaintAnswer}
 use Rattle.qws_demo.specs.Texts.{refusal_words, event_words, registered_words, reply_words, paint_words, comment, comment_behind, comments_behind, comments, entry_words, ended, head_text, colour_bytes, file_text}
 use Rattle.qws_demo.specs.Steps.{answer_words, PrintsAnswer}
-use Rattle.qws_demo.specs.Files.{lines_of, is_comment, front_comments, comments_of, front_digits, commented_client}
+use Rattle.qws_demo.specs.Files.{lines_of, front_comments, comments_of, front_digits, commented_client}
 use Rattle.qws_demo.specs.Lines.{no_end, IsInside, IsPrinted, PrintsRefusal, PrintsEvent, PrintsReply, PrintsPaint}
 
 both : (a b : Bool) → (a && b) ≡ true → (a ≡ true) × (b ≡ true)
@@ -178,6 +178,6 @@ pub file_clients : (size : Sides) (h : List Entry) (shown : List ℕ) → size.w
 unfolding file_text comments_of
 file_clients size h shown small clients inside =
     ap (map commented_client) (comments_back [] h (head_text size ++ flat_map colour_bytes shown)
-      (ap (λ t. front_comments (lines_of t)) (append_assoc (decimal size.w) _ _) ∙ digit_first (decimal size.w) _ (decimal_is_IsNumeral size.w small).0.0 (decimal_passes size.w small).0)
-      inside)
+    (ap (λ t. front_comments (lines_of t)) (append_assoc (decimal size.w) _ _) ∙ digit_first (decimal size.w) _ (decimal_is_IsNumeral size.w small).0.0 (decimal_passes size.w small).0)
+    inside)
     ∙ clients_back [] h clients

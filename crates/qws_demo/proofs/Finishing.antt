@@ -1,6 +1,6 @@
 -- The opening of a run, and its file.
-use Rattle.std.proofs.Common.{◌≡◌, ℕ, ◌+◌, ◌<◌, ◌≤◌, ◌^◌, List, [], ◌∷◌, ◌++◌, map, length, get_or, Option, None, Some, Bool, true, false, refl, ap, sym, ◌∙◌, subst, arith, append_assoc}
-use Rattle.std.specs.Prelude.{slice_get, All}
+use Rattle.std.proofs.Common.{◌≡◌, ℕ, ◌<◌, ◌^◌, List, [], ◌∷◌, ◌++◌, map, length, Option, None, Some, Bool, true, false, refl, ap, sym, ◌∙◌, subst, arith, append_assoc}
+use Rattle.std.specs.Prelude.{All}
 use lib.Chars.{codes}
 use Rattle.std.specs.List.{flat_map}
 use Rattle.std.proofs.lemmas.List.Elements.{All-weaker}
@@ -9,11 +9,10 @@ use Rattle.qws_base.specs.Sides.{Sides}
 use Rattle.qws_base.specs.Windows.{is_live}
 use Rattle.qws_base.specs.States.{State, step, create_step, region_step, free_slot, opening_cursor}
 use Rattle.qws_base.specs.Scenes.{Setting}
-use Rattle.qws_base.specs.Histories.{Entry, World, client_of, calls_of, next_world, opening_world, world_from, world_after}
+use Rattle.qws_base.specs.Histories.{Entry, World, client_of, next_world, opening_world, world_from, world_after}
 use Rattle.qws_base.specs.Histories.Entry.{Step as StepEntry, Paint as PaintEntry}
 use Rattle.qws_base.specs.declared.points.Point.{Point}
 use Rattle.qws_base.specs.declared.points.Rect.{Rect}
-use Rattle.qws_base.specs.declared.windows.Cursor.{Cursor}
 use Rattle.qws_base.specs.declared.commands.Command.{Command}
 use Rattle.qws_base.specs.declared.commands.Command.TheVariants.{Create, Destroy, Region, Move, Raise, Lower, CursorShape, CursorMove, CursorShow, Join, Leave, Send, Take, IsRegistered}
 use Rattle.session_script.specs.Session.{Session, session_setting, lines_by}
@@ -39,9 +38,9 @@ pub opening_callers : (session : Session) (callers : List Caller) → length cal
 opening_callers session callers many each = record {
   many = many;
   each = λ client d known.
-    let new : Caller = record { names = record { client = client; places = [] }; made = 0 } in
-    subst (IsCaller session [] client) (sym (get_or_from_slice_get callers client new d (each client known)))
-    (record { client_is = refl; places = sym (no_places (lines_by session client)); made = refl });
+      let new : Caller = record { names = record { client = client; places = [] }; made = 0 } in
+      subst (IsCaller session [] client) (sym (get_or_from_slice_get callers client new d (each client known)))
+      (record { client_is = refl; places = sym (no_places (lines_by session client)); made = refl });
 }
 
 -- ---- no command changes the cursor so far
@@ -101,6 +100,6 @@ file_is session text file limits commented is =
     let small : All (λ (e : Entry). client_of e < 2 ^ 64) h = All-weaker (λ (e : Entry). client_of e < session.clients) (λ (e : Entry). client_of e < 2 ^ 64) (λ e below. omega (arith, limits.clients)) h run.no_other in
     let inside : All IsInside (comments h) = subst (λ (k : List Entry). All IsInside (comments k)) (all_front session) commented.inside in
     let names : map commented_client (comments_of file) ≡ map (λ (l : CallLine). l.client) session.calls =
-        ap (λ (f : List ℕ). map commented_client (comments_of f)) is ∙ file_clients session.size h (shown_after session h) (omega (arith, limits.screen.most_w)) small inside ∙ in_order_clients session in
+    ap (λ (f : List ℕ). map commented_client (comments_of f)) is ∙ file_clients session.size h (shown_after session h) (omega (arith, limits.screen.most_w)) small inside ∙ in_order_clients session in
     let same : named_by session file ≡ h = ap (named session) names in
     record { text = is ∙ ap (file_of session) (sym same); run = subst (IsRunOf session) (sym same) run }

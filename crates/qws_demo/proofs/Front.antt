@@ -1,18 +1,18 @@
 -- The history in the order of the lines, line by line.
-use Rattle.std.proofs.Common.{◌≡◌, ℕ, ◌+◌, ◌<◌, ◌≤◌, ◌^◌, List, [], ◌∷◌, ◌++◌, map, length, take, drop, get_or, Option, None, Some, Bool, true, false, cond, ◌==◌, not, refl, ap, sym, ◌∙◌, subst, arith, append-nil, length-append, add-one, suc, zero}
+use Rattle.std.proofs.Common.{◌≡◌, ℕ, ◌+◌, ◌<◌, ◌≤◌, List, [], ◌∷◌, ◌++◌, map, length, take, get_or, Option, Some, Bool, true, false, cond, ◌==◌, refl, ap, sym, ◌∙◌, subst, arith, add-one, suc, zero}
 use Rattle.std.specs.Prelude.{slice_get, All}
 use Rattle.std.specs.List.{filter}
 use Rattle.std.specs.Option.{option_map, option_to_list}
-use Rattle.std.proofs.lemmas.List.{take_more, take-append-drop, map-append}
+use Rattle.std.proofs.lemmas.List.{take_more, map-append}
 use Rattle.std.proofs.Math.Seq.{take-length}
-use Rattle.std.proofs.lemmas.List.Elements.{filter-append, All-append, All-cons, All-nil}
+use Rattle.std.proofs.lemmas.List.Elements.{All-cons, All-nil}
 use Rattle.std.proofs.lemmas.Bool.{eq-eqb}
-use Rattle.qws_base.specs.Histories.{Entry, World, client_of, calls_of, world_after}
+use Rattle.qws_base.specs.Histories.{Entry, client_of, calls_of, world_after}
 use Rattle.session_script.specs.Session.{Session, session_setting, is_by, lines_by, call_line}
 use Rattle.session_script.specs.Limits.{IsSession, IsLine}
 use Rattle.session_script.specs.declared.lines.CallLine.{CallLine}
 use Rattle.session_script.specs.declared.lines.LineCall.TheVariants.{Create}
-use Rattle.qws_demo.specs.Runs.{entry_behind, next_entry, first_clients, front, line_at, named, in_order, IsRunOf}
+use Rattle.qws_demo.specs.Runs.{entry_behind, first_clients, front, line_at, named, in_order, IsRunOf}
 use Rattle.qws_demo.proofs.Named.{named_more, named_legal, named_whole, entry_client}
 
 -- a line where there is none
@@ -67,11 +67,11 @@ front_clients session (suc j) within =
     let so_far = front_clients session j (omega arith) in
     let below : j < length session.calls = omega arith in
     rw (← add-one) (
-      ap (map client_of) (front_more session j below so_far)
-      ∙ map-append client_of (front session j) _
-      ∙ ap (λ (cs : List ℕ). cs ++ client_of (entry_behind session (front session j) line.client line) ∷ []) so_far
-      ∙ ap (λ c. first_clients session j ++ c ∷ []) (entry_client (session_setting session) (world_after (session_setting session) (front session j)) line.client (length (calls_of (front session j) line.client)) _)
-      ∙ sym (ap (map (λ (l : CallLine). l.client)) (take_more session.calls j no_line below) ∙ map-append (λ (l : CallLine). l.client) (take j session.calls) (line ∷ [])))
+    ap (map client_of) (front_more session j below so_far)
+    ∙ map-append client_of (front session j) _
+    ∙ ap (λ (cs : List ℕ). cs ++ client_of (entry_behind session (front session j) line.client line) ∷ []) so_far
+    ∙ ap (λ c. first_clients session j ++ c ∷ []) (entry_client (session_setting session) (world_after (session_setting session) (front session j)) line.client (length (calls_of (front session j) line.client)) _)
+    ∙ sym (ap (map (λ (l : CallLine). l.client)) (take_more session.calls j no_line below) ∙ map-append (λ (l : CallLine). l.client) (take j session.calls) (line ∷ [])))
 
 -- all lines
 pub all_front : (session : Session) → front session (length session.calls) ≡ in_order session

@@ -1,7 +1,5 @@
 -- What holds of each history that a session names.
-use Rattle.std.proofs.Common.{◌≡◌, ℕ, ◌+◌, ◌<◌, ◌≤◌, List, [], ◌∷◌, ◌++◌, map, length, take, get_or, Option, None, Some, Bool, true, false, cond, ◌==◌, refl, ap, sym, ◌∙◌, subst, arith, append-nil, length-append, add-zero, suc}
-use Rattle.std.specs.Prelude.{⊤, slice_get}
-use Rattle.std.specs.List.{filter}
+use Rattle.std.proofs.Common.{◌≡◌, ℕ, ◌+◌, ◌<◌, ◌≤◌, List, [], ◌∷◌, ◌++◌, length, take, Option, None, Some, Bool, true, false, cond, ◌==◌, refl, ap, sym, ◌∙◌, subst, arith, append-nil, length-append, add-zero, suc}
 use Rattle.std.specs.Option.{option_map, option_to_list}
 use Rattle.std.proofs.lemmas.List.{take_more}
 use Rattle.std.proofs.Math.Seq.{take-length}
@@ -10,7 +8,6 @@ use Rattle.std.proofs.lemmas.Option.{slice_get_within, get_or_from_slice_get}
 use Rattle.std.proofs.lemmas.Bool.Decides.{nat_tests}
 use Rattle.qws_base.specs.Scenes.{Setting}
 use Rattle.qws_base.specs.Histories.{Entry, World, client_of, calls_of, next_world, Answers, world_from, world_after, opening_world, IsLegalFrom, IsLegal}
-use Rattle.qws_base.specs.Histories.Entry.{Step as StepEntry, Paint as PaintEntry}
 use Rattle.session_script.specs.Session.{Session, session_setting, lines_by, call_line}
 use Rattle.session_script.specs.Meaning.{meaning, learned_by_entry, places_after}
 use Rattle.session_script.specs.declared.lines.CallLine.{CallLine}
@@ -75,11 +72,11 @@ pub named_legal : (session : Session) (clients : List ℕ) → IsLegal (session_
 named_legal session clients =
     kept (IsLegal (session_setting session)) session
     (λ h c e is legal.
-      let next = is_next session h c e is in
-      let setting : Setting = session_setting session in
-      legal_more setting (opening_world setting) h e legal
-      (subst (Answers setting (world_after setting h)) (sym next.is_entry)
-      (entry_answers setting (world_after setting h) c (length (calls_of h c)) (meaning (places_in session h c) next.line.call))))
+    let next = is_next session h c e is in
+    let setting : Setting = session_setting session in
+    legal_more setting (opening_world setting) h e legal
+    (subst (Answers setting (world_after setting h)) (sym next.is_entry)
+    (entry_answers setting (world_after setting h) c (length (calls_of h c)) (meaning (places_in session h c) next.line.call))))
     [] clients tt
 
 -- ---- a client's calls
@@ -92,9 +89,11 @@ calls_snoc client k places [] [] line e so_far is = (subst (λ m. IsCallOf clien
 calls_snoc client k places [] (f ∷ entries) line e so_far is = absurd so_far
 calls_snoc client k places (l ∷ lines) [] line e so_far is = absurd so_far
 calls_snoc client k places (l ∷ lines) (f ∷ entries) line e so_far is =
-    let n : k + suc (length entries) ≡ (k + 1) + length entries = omega arith in
-    (so_far.0, calls_snoc client (k + 1) (learned_by_entry places l.call f) lines entries line e so_far.1
-      (subst (λ m. IsCallOf client m (meaning (places_after (learned_by_entry places l.call f) lines entries) line.call) e) n is))
+    let n : k + suc (length entries) ≡ (k + 1) + length entries = omega arith in (
+      so_far.0,
+      calls_snoc client (k + 1) (learned_by_entry places l.call f) lines entries line e so_far.1
+          (subst (λ m. IsCallOf client m (meaning (places_after (learned_by_entry places l.call f) lines entries) line.call) e) n is),
+    )
 
 -- only as many lines as entries give names
 places_front : (places : List Place) (lines : List CallLine) (entries : List Entry) → places_after places (take (length entries) lines) entries ≡ places_after places lines entries
@@ -125,7 +124,7 @@ so_far_own session client h new line e own found is so_far =
     let snoc = calls_snoc client 0 [] (take n lines) cs line e so_far.calls (subst (λ (ps : List Place). IsCallOf client (0 + n) (meaning ps line.call) e) (sym (places_front [] lines cs)) (subst (λ m. IsCallOf client m (meaning (places_in session h client) line.call) e) (let zero_n : n ≡ 0 + n = omega arith in zero_n) is)) in
     record {
       calls = subst (λ (all : List Entry). IsCallsFrom client 0 [] (take (length all) lines) all) (sym own)
-        (subst (λ m. IsCallsFrom client 0 [] (take m lines) (cs ++ e ∷ [])) (sym long) (subst (λ (ls : List CallLine). IsCallsFrom client 0 [] ls (cs ++ e ∷ [])) (sym front) snoc));
+          (subst (λ m. IsCallsFrom client 0 [] (take m lines) (cs ++ e ∷ [])) (sym long) (subst (λ (ls : List CallLine). IsCallsFrom client 0 [] ls (cs ++ e ∷ [])) (sym front) snoc));
       within = omega (arith, ap length own, long);
     }
 
@@ -143,7 +142,7 @@ named_so_far session client clients =
         (calls_more h e client ∙ ap (λ k. calls_of h client ++ cond (k == client) (e ∷ []) []) made ∙ ap (λ b. calls_of h client ++ cond b (e ∷ []) []) same)
         (subst (λ k. call_line session k (length (calls_of h k)) ≡ Some next.line) is next.is_line)
         (subst (λ k. IsCallOf k (length (calls_of h k)) (meaning (places_in session h k) next.line.call) e) is
-          (subst (IsCallOf c (length (calls_of h c)) (meaning (places_in session h c) next.line.call)) (sym next.is_entry) (entry_is_call (session_setting session) (world_after (session_setting session) h) c (length (calls_of h c)) (meaning (places_in session h c) next.line.call))))
+        (subst (IsCallOf c (length (calls_of h c)) (meaning (places_in session h c) next.line.call)) (sym next.is_entry) (entry_is_call (session_setting session) (world_after (session_setting session) h) c (length (calls_of h c)) (meaning (places_in session h c) next.line.call))))
         so_far
     step h c e next so_far false other =
         let made : client_of e ≡ c = ap client_of next.is_entry ∙ entry_client (session_setting session) (world_after (session_setting session) h) c (length (calls_of h c)) (meaning (places_in session h c) next.line.call) in

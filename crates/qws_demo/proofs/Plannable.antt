@@ -1,6 +1,5 @@
 -- The calls of a session can be planned: there is no window before its one create.
-use Rattle.std.proofs.Common.{◌≡◌, ℕ, ◌+◌, ◌<◌, ◌≤◌, List, [], ◌∷◌, ◌++◌, length, take, drop, get_or, Bool, true, false, cond, refl, ap, sym, ◌∙◌, subst, arith, length-append, add-one, suc, zero}
-use Rattle.std.specs.Prelude.{All}
+use Rattle.std.proofs.Common.{◌≡◌, ℕ, ◌+◌, ◌<◌, ◌≤◌, List, [], ◌∷◌, length, take, drop, get_or, Bool, true, false, cond, refl, ap, ◌∙◌, arith, length-append, add-one, suc, zero}
 use Rattle.std.specs.List.{filter}
 use Rattle.std.proofs.lemmas.List.{take_more, take-append-drop}
 use Rattle.std.proofs.lemmas.List.Elements.{filter-append}
@@ -61,9 +60,9 @@ no_window session (suc j) within none =
     let before = no_window session j (omega arith) (omega (arith, some, more)) in
     let line : CallLine = line_at session j in
     rw (← add-one) (
-      ap (λ (h : List Entry). (world_after setting h).state.windows) (front_next session j below)
-      ∙ ap (λ (w : World). w.state.windows) (world_more setting (opening_world setting) (front session j) (line_entry session j))
-      ∙ entry_keeps setting (world_after setting (front session j)) line.client (length (calls_of (front session j) line.client)) (places_in session (front session j) line.client) line.call (not_created (creates line) line refl (omega (arith, some, more))) before)
+    ap (λ (h : List Entry). (world_after setting h).state.windows) (front_next session j below)
+    ∙ ap (λ (w : World). w.state.windows) (world_more setting (opening_world setting) (front session j) (line_entry session j))
+    ∙ entry_keeps setting (world_after setting (front session j)) line.client (length (calls_of (front session j) line.client)) (places_in session (front session j) line.client) line.call (not_created (creates line) line refl (omega (arith, some, more))) before)
 
 first_create : (session : Session) (j : ℕ) → j < length session.calls → length (filter creates session.calls) ≤ 1 → creates (line_at session j) ≡ true → length (filter creates (take j session.calls)) ≡ 0
 first_create session j below one is =

@@ -1,41 +1,32 @@
 -- What a run holds after one more line.
-use Rattle.std.proofs.Common.{◌≡◌, ℕ, ◌+◌, ◌<◌, ◌≤◌, ◌^◌, List, [], ◌∷◌, ◌++◌, map, length, take, get_or, set, Option, None, Some, Bool, true, false, cond, ◌==◌, refl, ap, sym, ◌∙◌, subst, arith, append-nil, append_assoc, length-append, inl, inr}
+use Rattle.std.proofs.Common.{◌≡◌, ℕ, ◌+◌, ◌<◌, List, [], ◌∷◌, ◌++◌, length, get_or, set, Some, false, cond, ◌==◌, refl, ap, sym, ◌∙◌, subst, arith, append-nil, append_assoc, length-append, inl, inr}
 use Rattle.std.specs.Prelude.{slice_get, All}
 use lib.Chars.{codes}
-use Rattle.std.specs.List.{filter, flat_map}
-use Rattle.std.specs.Option.{option_map}
-use Rattle.std.proofs.lemmas.List.{take_more, take-append-drop, get_or-set_other, get_or-set_same, length-set}
+use Rattle.std.specs.List.{flat_map}
+use Rattle.std.proofs.lemmas.List.{get_or-set_other, get_or-set_same, length-set}
 use Rattle.std.proofs.lemmas.List.Concat.{flat_map-append}
-use Rattle.std.proofs.lemmas.List.Elements.{filter-append, All-append, All-push, All-cons, All-nil}
-use Rattle.std.proofs.lemmas.Option.{slice_get-get_or, slice_get_within}
+use Rattle.std.proofs.lemmas.List.Elements.{All-push}
+use Rattle.std.proofs.lemmas.Option.{slice_get_within}
 use Rattle.std.proofs.lemmas.Bool.{cases_eq, eq-eqb}
 use Rattle.std.proofs.lemmas.Bool.Decides.{nat_tests}
-use Rattle.qws_base.specs.Points.{IsPlaced}
-use Rattle.qws_base.specs.States.{State, step, is_refused}
 use Rattle.qws_base.specs.Scenes.{Setting}
 use Rattle.qws_base.specs.Histories.{Entry, World, client_of, calls_of, next_world, opening_world, world_after}
 use Rattle.qws_base.specs.Histories.Entry.{Step as StepEntry, Paint as PaintEntry}
-use Rattle.qws_base.specs.declared.windows.WindowView.{WindowView}
-use Rattle.window_core.specs.CoreViews.{CoreView, IsPlannable}
+use Rattle.window_core.specs.CoreViews.{CoreView}
 use Rattle.pixel_model.specs.Drawn.{Drawn}
-use Rattle.gfx_fills.specs.Parts.{IsPlacedRect}
-use Rattle.session_script.specs.Session.{Session, session_setting, is_by, is_create, lines_by, call_line}
-use Rattle.session_script.specs.Limits.{IsSession, IsLine, IsCall}
-use Rattle.session_script.specs.Meaning.{meaning, learned, learned_by_entry, places_after}
+use Rattle.session_script.specs.Session.{Session, session_setting, lines_by, call_line}
+use Rattle.session_script.specs.Meaning.{meaning, learned_by_entry, places_after}
 use Rattle.session_script.specs.declared.lines.CallLine.{CallLine}
 use Rattle.session_script.specs.declared.lines.LineCall.{LineCall}
-use Rattle.session_script.specs.declared.lines.LineCall.TheVariants.{Create, Region, Fill}
 use Rattle.session_script.specs.declared.names.Place.{Place}
-use Rattle.session_script.specs.declared.names.Call.{Call}
-use Rattle.session_script.specs.declared.names.Call.TheVariants.{Step, Paint}
 use Rattle.qws_demo.specs.declared.answers.Answer.{Answer}
 use Rattle.qws_demo.specs.declared.callers.Caller.{Caller}
 use Rattle.qws_demo.specs.Texts.{comment, comment_behind, comments_behind, comments, entry_words, ended}
 use Rattle.qws_demo.specs.Lines.{IsInside}
-use Rattle.qws_demo.specs.Runs.{entry_in, entry_behind, places_in, front, first_clients, line_at, line_entry}
-use Rattle.qws_demo.specs.Steps.{answer_of, answer_words, learned_by_answer, IsMakeable, IsCaller, AreCallers, IsWorld, IsCommented, IsNextWorld}
+use Rattle.qws_demo.specs.Runs.{places_in, front, line_at, line_entry}
+use Rattle.qws_demo.specs.Steps.{answer_of, answer_words, learned_by_answer, IsCaller, AreCallers, IsWorld, IsCommented, IsNextWorld}
 use Rattle.qws_demo.proofs.Named.{world_more, calls_more, entry_client}
-use Rattle.qws_demo.proofs.Front.{no_line, front_more, front_clients, next_line_is, same_count}
+use Rattle.qws_demo.proofs.Front.{front_more, front_clients, next_line_is}
 
 pub front_next : (session : Session) (j : ℕ) → j < length session.calls → front session (j + 1) ≡ front session j ++ line_entry session j ∷ []
 front_next session j below = front_more session j below (front_clients session j (omega arith))
@@ -55,7 +46,7 @@ pub world_next : (session : Session) (j : ℕ) (core new_core : CoreView) (canva
 world_next session j core new_core canvas new_canvas below is size setting next =
     let setting_is : Setting = session_setting session in
     let after : world_after setting_is (front session (j + 1)) ≡ next_world setting_is (world_after setting_is (front session j)) (line_entry session j) =
-        ap (world_after setting_is) (front_next session j below) ∙ world_more setting_is (opening_world setting_is) (front session j) (line_entry session j) in
+    ap (world_after setting_is) (front_next session j below) ∙ world_more setting_is (opening_world setting_is) (front session j) (line_entry session j) in
     record {
       size = size ∙ is.size;
       setting = setting ∙ is.setting;
@@ -81,15 +72,15 @@ commented_next session j text new client made answer below is by_client number a
     let line : List ℕ = comment client made (answer_words answer) in
     let who : client ≡ client_of e = by_client ∙ sym (line_entry_client session j) in
     let same : line ≡ comment_behind h e =
-        ap (λ (a : Answer). comment client made (answer_words a)) answered
-        ∙ ap (λ (w : List ℕ). comment client made w) (sym (words_of_answer e))
-        ∙ ap (λ (n : ℕ). comment client n (entry_words e)) number
-        ∙ ap (λ (c : ℕ). comment c (length (calls_of h c)) (entry_words e)) who in
+    ap (λ (a : Answer). comment client made (answer_words a)) answered
+    ∙ ap (λ (w : List ℕ). comment client made w) (sym (words_of_answer e))
+    ∙ ap (λ (n : ℕ). comment client n (entry_words e)) number
+    ∙ ap (λ (c : ℕ). comment c (length (calls_of h c)) (entry_words e)) who in
     let all : comments (front session (j + 1)) ≡ comments h ++ line ∷ [] =
-        ap comments (front_next session j below) ∙ comments_snoc [] h e ∙ ap (λ (l : List ℕ). comments h ++ l ∷ []) (sym same) in
+    ap comments (front_next session j below) ∙ comments_snoc [] h e ∙ ap (λ (l : List ℕ). comments h ++ l ∷ []) (sym same) in
     record {
       text_is = written ∙ ap (λ (t : List ℕ). t ++ ended line) is.text_is ∙ append_assoc (codes "P6\n") (flat_map ended (comments h)) (ended line)
-        ∙ ap (λ (t : List ℕ). codes "P6\n" ++ t) (ap (λ (l : List ℕ). flat_map ended (comments h) ++ l) (sym (append-nil (ended line))) ∙ sym (flat_map-append ended (comments h) (line ∷ [])) ∙ ap (flat_map ended) (sym all));
+          ∙ ap (λ (t : List ℕ). codes "P6\n" ++ t) (ap (λ (l : List ℕ). flat_map ended (comments h) ++ l) (sym (append-nil (ended line))) ∙ sym (flat_map-append ended (comments h) (line ∷ [])) ∙ ap (flat_map ended) (sym all));
       inside = subst (All IsInside) (sym all) (All-push IsInside (comments h) line is.inside inside);
     }
 
@@ -134,7 +125,7 @@ callers_next session j callers client caller new answer below are by_client with
       many = length-set callers client new ∙ are.many;
       each = λ c d known. elim (cases_eq c client) [
         | inl same ↦ subst (λ (x : Caller). IsCaller session (h ++ e ∷ []) c x) (sym (ap (λ (k : ℕ). get_or (set callers client new) k d) same ∙ get_or-set_same callers client new d (omega (arith, are.many))))
-          (subst (λ (k : ℕ). IsCaller session (h ++ e ∷ []) k new) (sym same) (own_caller session h e client caller new line (line_entry_client session j ∙ sym by_client) (subst (λ (k : ℕ). call_line session k (length (calls_of h k)) ≡ Some line) (sym by_client) (next_line session j below)) mine (stays ∙ mine.client_is) more
+            (subst (λ (k : ℕ). IsCaller session (h ++ e ∷ []) k new) (sym same) (own_caller session h e client caller new line (line_entry_client session j ∙ sym by_client) (subst (λ (k : ℕ). call_line session k (length (calls_of h k)) ≡ Some line) (sym by_client) (next_line session j below)) mine (stays ∙ mine.client_is) more
             (learns ∙ ap (learned_by_answer caller.names.places line.call) answered ∙ sym (learned_same caller.names.places line.call e))))
         | inr apart ↦ subst (λ (x : Caller). IsCaller session (h ++ e ∷ []) c x) (sym (get_or-set_other callers client c new d apart)) (other_caller session h e c (get_or callers c d) (let e_client : client_of e ≡ client = line_entry_client session j ∙ sym by_client in grind (arith, nat_tests)) (are.each c d known))
       ];

@@ -1,6 +1,6 @@
 -- The file of a history, and the history that a file's comments name.
 use Rattle.std.specs.Prelude.{ℕ, ◌≡◌, ◌==◌, List, [], ◌∷◌, map, drop, Bool, false, if◌then◌else◌}
-use Rattle.std.specs.List.{slice_split, take_while}
+use Rattle.std.specs.List.{slice_split}
 use Rattle.std.specs.Str.Parse.{digits_value}
 use Rattle.qws_base.specs.Histories.{Entry, world_after}
 use Rattle.qws_base.specs.Shown.{shown_picture}

@@ -1,5 +1,5 @@
 -- The history in which the clients of a session make their next calls in a given order.
-use Rattle.std.specs.Prelude.{ℕ, ◌≡◌, ◌<◌, ◌+◌, List, [], ◌∷◌, ◌++◌, map, length, take, slice_index_or, Option, None, Some, ⊤, All}
+use Rattle.std.specs.Prelude.{ℕ, ◌≡◌, ◌<◌, ◌+◌, List, [], ◌∷◌, ◌++◌, map, length, take, slice_index_or, Option, ⊤, All}
 use Rattle.std.specs.Option.{option_map, option_to_list}
 use Rattle.qws_base.specs.Windows.{layout_of}
 use Rattle.qws_base.specs.States.{step}

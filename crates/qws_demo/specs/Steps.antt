@@ -1,5 +1,5 @@
 -- What a run holds after the first lines of a script.
-use Rattle.std.specs.Prelude.{ℕ, ◌≡◌, ◌<◌, ◌≤◌, List, [], ◌∷◌, ◌++◌, length, slice_index_or, slice_get, Some, All, ⊤}
+use Rattle.std.specs.Prelude.{ℕ, ◌≡◌, ◌<◌, List, [], ◌++◌, length, slice_index_or, slice_get, Some, All, ⊤}
 use lib.Chars.{codes}
 use Rattle.std.specs.List.{flat_map}
 use Rattle.qws_base.specs.States.{State}
@@ -9,7 +9,7 @@ use Rattle.qws_base.specs.Histories.Entry.{Step as StepEntry, Paint as PaintEntr
 use Rattle.window_core.specs.CoreViews.{CoreView, IsPlannable}
 use Rattle.pixel_model.specs.Drawn.{Drawn}
 use Rattle.session_script.specs.Session.{Session, session_setting}
-use Rattle.session_script.specs.Meaning.{NamesView, learned}
+use Rattle.session_script.specs.Meaning.{learned}
 use Rattle.session_script.specs.declared.lines.LineCall.{LineCall}
 use Rattle.session_script.specs.declared.names.Place.{Place}
 use Rattle.session_script.specs.declared.names.Call.{Call}

@@ -1,7 +1,7 @@
 -- The words of a file: a comment for each entry of a history, the screen's size, and the raster.
-use Rattle.std.specs.Prelude.{ℕ, ◌≡◌, ◌/◌, ◌%◌, ◌==◌, List, [], ◌∷◌, ◌++◌, length, not, Bool, true, false}
+use Rattle.std.specs.Prelude.{ℕ, ◌/◌, ◌%◌, List, [], ◌∷◌, ◌++◌, length, Bool, true, false}
 use lib.Chars.{codes}
-use Rattle.std.specs.List.{flat_map, list_all}
+use Rattle.std.specs.List.{flat_map}
 use Rattle.std.specs.Fmt.{decimal, signed_decimal}
 use Rattle.qws_base.specs.Sides.{Sides}
 use Rattle.qws_base.specs.Histories.{Entry, client_of, calls_of}

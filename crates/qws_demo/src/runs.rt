@@ -125,8 +125,24 @@ fn run_line(alloc: Global, script: &Script, run: &mut Run, j: u64) -> Result<(),
     ensures text { OnOk result (IsCommented (front script.now (j + 1)) run.new.text.items) }
 {
     let (client, call) = line_call(alloc, script, &run.callers, j)?;
-    let answer = line_answer(alloc, script, &mut run.core, &mut run.canvas, j, client, &call)?;
-    line_note(alloc, script, &run.callers, &mut run.text, j, client, &answer)?;
+    let answer = line_answer(
+        alloc,
+        script,
+        &mut run.core,
+        &mut run.canvas,
+        j,
+        client,
+        &call,
+    )?;
+    line_note(
+        alloc,
+        script,
+        &run.callers,
+        &mut run.text,
+        j,
+        client,
+        &answer,
+    )?;
     line_learned(alloc, script, &mut run.callers, j, client, &answer)?;
     Ok(())
 }

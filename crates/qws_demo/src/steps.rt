@@ -78,13 +78,7 @@ fn make_step(
 }
 
 // A paint of a client.
-fn make_paint(
-    core: &Core,
-    canvas: &mut Canvas,
-    client: u32,
-    slot: u32,
-    paint: &Paint,
-) -> PaintReply
+fn make_paint(core: &Core, canvas: &mut Canvas, client: u32, slot: u32, paint: &Paint) -> PaintReply
     requires size { canvas.old.setting.size ≡ core.now.size }
     ensures setting { canvas.new.setting ≡ canvas.old.setting }
     ensures scene { canvas.new.scene ≡ scene_after_paint canvas.old.setting (layout_of canvas.old.setting.size core.now.state.windows) client slot (paint_sheet paint.now) canvas.old.scene }

@@ -5,13 +5,20 @@ use std::alloc::Global;
 use std::test::Fail;
 
 const EMPTY: &[u8] = b"screen 2 1 102030\nclients 0\nend\n";
+
 const EMPTY_FILE: &[u8] = b"P6\n2 1\n255\n\x10\x20\x30\x10\x20\x30";
 
-const CLIPPING: &[u8] = b"screen 3 2 000000\nclients 1\n0 create a 0\n0 region a 1 0 0 0 1 2\n0 fill a -5 -5 20 20 copy ff8000\nend\n";
-const CLIPPING_FILE: &[u8] = b"P6\n# 0 0 created 0\n# 0 1 done\n# 0 2 painted 2\n3 2\n255\n\x00\x00\x00\xff\x80\x00\x00\x00\x00\x00\x00\x00\xff\x80\x00\x00\x00\x00";
+const CLIPPING: &[u8] =
+    b"screen 3 2 000000\nclients 1\n0 create a 0\n0 region a 1 0 0 0 1 2\n0 fill a -5 -5 20 20 copy ff8000\nend\n";
 
-const NARROW: &[u8] = b"depth 16\nscreen 2 1 123456\nclients 1\n0 create a 0\n0 region a 0 0 1 0 1 1\n0 fill a 1 0 1 1 copy ff8000\nend\n";
-const NARROW_FILE: &[u8] = b"P6\n# 0 0 created 0\n# 0 1 done\n# 0 2 painted 1\n2 1\n255\n\x10\x34\x52\xff\x82\x00";
+const CLIPPING_FILE: &[u8] =
+    b"P6\n# 0 0 created 0\n# 0 1 done\n# 0 2 painted 2\n3 2\n255\n\x00\x00\x00\xff\x80\x00\x00\x00\x00\x00\x00\x00\xff\x80\x00\x00\x00\x00";
+
+const NARROW: &[u8] =
+    b"depth 16\nscreen 2 1 123456\nclients 1\n0 create a 0\n0 region a 0 0 1 0 1 1\n0 fill a 1 0 1 1 copy ff8000\nend\n";
+
+const NARROW_FILE: &[u8] =
+    b"P6\n# 0 0 created 0\n# 0 1 done\n# 0 2 painted 1\n2 1\n255\n\x10\x34\x52\xff\x82\x00";
 
 // The program with one word, over these bytes, into a sink that takes at most so many bytes a call and fails at the calls
 // of these numbers.

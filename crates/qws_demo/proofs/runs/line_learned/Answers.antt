@@ -1,4 +1,4 @@
-use Rattle.std.proofs.Common.{◌≡◌, ◌<◌, ◌+◌, ◌^◌, length, get_or, arith, sym}
+use Rattle.std.proofs.Common.{◌≡◌, length, get_or, arith}
 use Rattle.std.proofs.lemmas.List.{get_or_default}
 use Rattle.qws_base.specs.Histories.{calls_of}
 use Rattle.qws_demo.specs.declared.callers.Caller.{Caller}

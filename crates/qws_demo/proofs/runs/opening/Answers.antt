@@ -1,5 +1,4 @@
-use Rattle.std.proofs.Common.{◌∙◌, subst, ◌<◌, ℕ, sym}
-use Rattle.qws_demo.specs.Steps.{IsNewCaller}
+use Rattle.std.proofs.Common.{◌∙◌, subst, ◌<◌, sym}
 use Rattle.qws_demo.proofs.Finishing.{opening_callers}
 use Rattle.qws_demo.proofs.runs.opening.Goals as goal
 

@@ -1,4 +1,3 @@
-use Rattle.session_script.specs.Limits.{IsSession}
 use Rattle.qws_demo.specs.Runs.{front}
 use Rattle.qws_demo.specs.Steps.{AreCallers, IsWorld, IsCommented}
 use Rattle.qws_demo.proofs.runs.run_lines.Given as goal
