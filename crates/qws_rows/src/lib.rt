@@ -2,10 +2,16 @@
 #![tactic(auto)]
 
 #[cfg(test)]
+mod base_rows;
+
+#[cfg(test)]
 mod channel_rows;
+
 #[cfg(test)]
 mod script_rows;
+
 #[cfg(test)]
 mod shape_rows;
+
 #[cfg(test)]
 mod table_rows;
