@@ -34,7 +34,10 @@ fn stops_of_channels(rt: HostRuntime) -> Result<(), Fail> {
     assert_eq!(rt; channels.join(0, &[b'n'; 65]), Err(QcopStop::BadName));
     assert_eq!(rt; channels.leave(0, b"d"), Err(QcopStop::NotJoined));
     assert_eq!(rt; channels.send(0, b"d", b"m", b""), Err(QcopStop::NoChannel));
-    assert_eq!(rt; channels.send(0, b"c", b"m", &[0; 4097]), Err(QcopStop::TooLarge { len: 4097 }));
+    assert_eq!(rt;
+        channels.send(0, b"c", b"m", &[0; 4097]),
+        Err(QcopStop::TooLarge { len: 4097 })
+    );
     assert_eq!(rt; seen_in(channels.take(0)), EMPTY);
     assert!(rt; channels.is_registered(b"c"));
     assert!(rt; !channels.is_registered(b"d"));
@@ -85,10 +88,16 @@ fn fills_a_mailbox(rt: HostRuntime) -> Result<(), Fail> {
     for _ in 0..256u32 {
         assert_eq!(rt; channels.send(0, b"c", b"m", b""), Ok(1));
     }
-    assert_eq!(rt; channels.send(0, b"c", b"m", b""), Err(QcopStop::MailboxFull { client: 1 }));
+    assert_eq!(rt;
+        channels.send(0, b"c", b"m", b""),
+        Err(QcopStop::MailboxFull { client: 1 })
+    );
     assert_eq!(rt; channels.note_region(1, 0), Ok(()));
     for _ in 0..256u32 {
-        assert_eq!(rt; seen_in(channels.take(1)), Taken::Message { from: 0, len: 0 });
+        assert_eq!(rt;
+            seen_in(channels.take(1)),
+            Taken::Message { from: 0, len: 0 }
+        );
     }
     assert_eq!(rt; seen_in(channels.take(1)), Taken::Modified { slot: 0 });
     assert_eq!(rt; seen_in(channels.take(1)), EMPTY);

@@ -3,15 +3,11 @@
 
 #[cfg(test)]
 mod base_rows;
-
 #[cfg(test)]
 mod channel_rows;
-
 #[cfg(test)]
 mod script_rows;
-
 #[cfg(test)]
 mod shape_rows;
-
 #[cfg(test)]
 mod table_rows;
