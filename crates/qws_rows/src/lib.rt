@@ -2,4 +2,6 @@
 #![tactic(auto)]
 
 #[cfg(test)]
+mod picture_rows;
+#[cfg(test)]
 mod script_rows;
