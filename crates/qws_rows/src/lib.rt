@@ -6,6 +6,8 @@ mod base_rows;
 #[cfg(test)]
 mod channel_rows;
 #[cfg(test)]
+mod picture_rows;
+#[cfg(test)]
 mod script_rows;
 #[cfg(test)]
 mod shape_rows;
