@@ -8,6 +8,8 @@ mod channel_rows;
 #[cfg(test)]
 mod picture_rows;
 #[cfg(test)]
+mod region_rows;
+#[cfg(test)]
 mod script_rows;
 #[cfg(test)]
 mod shape_rows;

@@ -1,0 +1,46 @@
+//! Laws of the grammar of frames. Each function does nothing; its clause is the law.
+ghost use Rattle.std.specs.Prelude.{◌≡◌, false, true, None};
+ghost use Rattle.qws_frames.specs.Layout.{SpellsCommand, SpellsReply};
+ghost use Rattle.qws_frames.specs.Stops.{frame_refusal};
+
+use qws_base::{Command, Reply};
+
+/// Bytes spell at most one command.
+pub fn one_command(first: &Command, second: &Command, bytes: &[u8])
+    requires first { SpellsCommand first.now bytes.now }
+    requires second { SpellsCommand second.now bytes.now }
+    ensures { first.now ≡ second.now }
+{
+    let _ = first;
+    let _ = second;
+    let _ = bytes;
+}
+
+/// Bytes spell at most one reply.
+pub fn one_reply(first: &Reply, second: &Reply, bytes: &[u8])
+    requires first { SpellsReply first.now bytes.now }
+    requires second { SpellsReply second.now bytes.now }
+    ensures { first.now ≡ second.now }
+{
+    let _ = first;
+    let _ = second;
+    let _ = bytes;
+}
+
+/// No cause refuses the bytes of a command.
+pub fn spelled_command_passes(command: &Command, bytes: &[u8])
+    requires { SpellsCommand command.now bytes.now }
+    ensures { frame_refusal false bytes.now ≡ None }
+{
+    let _ = command;
+    let _ = bytes;
+}
+
+/// No cause refuses the bytes of a reply.
+pub fn spelled_reply_passes(reply: &Reply, bytes: &[u8])
+    requires { SpellsReply reply.now bytes.now }
+    ensures { frame_refusal true bytes.now ≡ None }
+{
+    let _ = reply;
+    let _ = bytes;
+}

@@ -1,0 +1,202 @@
+//! Regions: canonical lists and the operations on them.
+ghost use Rattle.std.specs.Prelude.{pos, negsuc};
+ghost use Rattle.std.specs.Bool.{OnTrue};
+ghost use Rattle.qws_rows.specs.Sides.{IsSide};
+ghost use Rattle.band_regions.specs.Ranges.{IsInRange, IsShiftable};
+
+use band_regions::Region;
+use qws_base::{OutOfMemory, Point, Rect};
+use std::alloc::{AllocError, AllocFailed, Global};
+
+/// Why a test ends before its end.
+#[derive(Debug, Drop)]
+enum Stop {
+    OutOfRange,
+    OutOfMemory,
+}
+
+impl From<OutOfMemory> for Stop {
+    fn from(_: OutOfMemory) -> Self {
+        Stop::OutOfMemory
+    }
+}
+
+impl From<AllocError> for Stop {
+    fn from(_: AllocError) -> Self {
+        Stop::OutOfMemory
+    }
+}
+
+impl<T: Drop> From<AllocFailed<T>> for Stop {
+    fn from(_: AllocFailed<T>) -> Self {
+        Stop::OutOfMemory
+    }
+}
+
+const fn rect(x: i32, y: i32, w: u32, h: u32) -> Rect {
+    Rect { x, y, w, h }
+}
+
+// Whether so many places from a start on are in range.
+fn is_side(start: i32, count: u32) -> bool
+    ensures { OnTrue result (IsSide start count) }
+{
+    if start < -32768 || start > 32767 {
+        return false;
+    }
+    if count > 65536 {
+        return false;
+    }
+    start + count as i32 <= 32768
+}
+
+fn is_in_range(rect: &Rect) -> bool
+    ensures { OnTrue result (IsInRange rect.now) }
+{
+    is_side(rect.x, rect.w) && is_side(rect.y, rect.h)
+}
+
+fn region(alloc: Global, rects: &[Rect]) -> Result<Region, Stop> {
+    if rects.iter().all(|r| is_in_range(r)) {
+        Ok(Region::of_rects(alloc, rects)?)
+    } else {
+        Err(Stop::OutOfRange)
+    }
+}
+
+// Moved by three columns to the right and one row up.
+fn shifted(alloc: Global, region: &Region) -> Result<Region, Stop> {
+    let rects = region.rects();
+    if rects.iter().all(|r| stays_in_range(r)) {
+        Ok(region.shift(alloc, 3, -1)?)
+    } else {
+        Err(Stop::OutOfRange)
+    }
+}
+
+fn stays_in_range(rect: &Rect) -> bool
+    ensures { OnTrue result (IsShiftable (pos 3) (negsuc 0) rect.now) }
+{
+    is_shiftable(rect, 3, -1)
+}
+
+// Whether a rectangle that is moved so far is in range.
+fn is_shiftable(rect: &Rect, dx: i32, dy: i32) -> bool
+    ensures { OnTrue result (IsShiftable dx dy rect.now) }
+{
+    if dx < -65536 || dx > 65536 || dy < -65536 || dy > 65536 || !is_in_range(rect) {
+        return false;
+    }
+    is_side(dx + rect.x, rect.w) && is_side(dy + rect.y, rect.h)
+}
+
+#[test]
+fn canonical_lists(rt: HostRuntime) -> Result<(), Stop> {
+    let cases: [(&[Rect], &[Rect]); 10] = [
+        (&[], &[]),
+        // none has pixels
+        (&[rect(0, 0, 0, 5), rect(3, 3, 2, 0)], &[]),
+        (&[rect(0, 0, 0, 5), rect(3, 3, 2, 1)], &[rect(3, 3, 2, 1)]),
+        // one over the other
+        (
+            &[rect(1, 0, 1, 3), rect(0, 1, 3, 1)],
+            &[rect(1, 0, 1, 1), rect(0, 1, 3, 1), rect(1, 2, 1, 1)],
+        ),
+        // equal ones
+        (&[rect(0, 0, 2, 2), rect(0, 0, 2, 2)], &[rect(0, 0, 2, 2)]),
+        // side by side
+        (&[rect(2, 0, 2, 1), rect(0, 0, 2, 1)], &[rect(0, 0, 4, 1)]),
+        // bands that touch, with the same spans
+        (&[rect(0, 0, 2, 1), rect(0, 1, 2, 1)], &[rect(0, 0, 2, 2)]),
+        (
+            &[rect(0, 0, 2, 1), rect(0, 2, 2, 1), rect(0, 1, 2, 1)],
+            &[rect(0, 0, 2, 3)],
+        ),
+        // and with others
+        (
+            &[rect(0, 0, 2, 1), rect(0, 1, 3, 1)],
+            &[rect(0, 0, 2, 1), rect(0, 1, 3, 1)],
+        ),
+        // the corners of the range
+        (
+            &[rect(-32768, -32768, 65536, 1), rect(32767, 32767, 1, 1)],
+            &[rect(-32768, -32768, 65536, 1), rect(32767, 32767, 1, 1)],
+        ),
+    ];
+    for (rects, list) in cases {
+        let made = region(rt.alloc(), rects)?;
+        assert_eq!(rt; made.rects(), list);
+    }
+    Ok(())
+}
+
+#[test]
+fn set_operations(rt: HostRuntime) -> Result<(), Stop> {
+    let alloc = rt.alloc();
+    let left = region(alloc, &[rect(0, 0, 2, 1)])?;
+    let right = region(alloc, &[rect(2, 0, 2, 1)])?;
+    let both = left.unite(alloc, &right)?;
+    assert_eq!(rt; both.rects(), [rect(0, 0, 4, 1)].as_slice());
+    let hole = region(alloc, &[rect(1, 0, 1, 1)])?;
+    let rest = both.minus(alloc, &hole)?;
+    assert_eq!(rt;
+        rest.rects(),
+        [rect(0, 0, 1, 1), rect(2, 0, 2, 1)].as_slice()
+    );
+    let tall = region(alloc, &[rect(1, 0, 2, 5)])?;
+    let common = both.meet(alloc, &tall)?;
+    assert_eq!(rt; common.rects(), [rect(1, 0, 2, 1)].as_slice());
+    let square = region(alloc, &[rect(0, 0, 2, 2)])?;
+    let away = shifted(alloc, &square)?;
+    assert_eq!(rt; away.rects(), [rect(3, -1, 2, 2)].as_slice());
+    let copy = away.copy(alloc)?;
+    assert_eq!(rt; copy.rects(), away.rects());
+    Ok(())
+}
+
+#[test]
+fn punched_window(rt: HostRuntime) -> Result<(), Stop> {
+    let alloc = rt.alloc();
+    let window = region(alloc, &[rect(0, 0, 3, 3)])?;
+    let hole = region(alloc, &[rect(1, 1, 1, 1)])?;
+    let punched = window.minus(alloc, &hole)?;
+    let list = [
+        rect(0, 0, 3, 1),
+        rect(0, 1, 1, 1),
+        rect(2, 1, 1, 1),
+        rect(0, 2, 3, 1),
+    ];
+    assert_eq!(rt; punched.rects(), list.as_slice());
+    let whole = punched.unite(alloc, &hole)?;
+    assert_eq!(rt; whole.rects(), window.rects());
+    for (x, y, is_held) in [
+        (0, 0, true),
+        (1, 1, false),
+        (2, 1, true),
+        (3, 1, false),
+        (1, 3, false),
+    ] {
+        assert_eq!(rt; punched.holds(Point { x, y }), is_held, "at {x}, {y}");
+    }
+    Ok(())
+}
+
+#[test]
+fn comb(rt: HostRuntime) -> Result<(), Stop> {
+    let alloc = rt.alloc();
+    let mut teeth = Vec::new(alloc);
+    for x in [0, 2, 4, 6, 8, 10, 12, 14, 16, 18, 20, 22, 24, 26, 28, 30] {
+        teeth.push(rect(x, 0, 1, 29))?;
+    }
+    for y in [1, 3, 5, 7, 9, 11, 13, 15, 17, 19, 21, 23, 25, 27] {
+        teeth.push(rect(0, y, 31, 1))?;
+    }
+    assert_eq!(rt; region(alloc, &teeth)?.rects().len(), 254);
+    teeth.push(rect(40, 0, 1, 1))?;
+    teeth.push(rect(42, 0, 1, 1))?;
+    assert_eq!(rt; region(alloc, &teeth)?.rects().len(), 256);
+    teeth.truncate(30);
+    teeth.push(rect(40, 0, 1, 3))?;
+    assert_eq!(rt; region(alloc, &teeth)?.rects().len(), 257);
+    Ok(())
+}
