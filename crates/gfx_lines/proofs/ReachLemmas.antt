@@ -13,47 +13,15 @@ use Rattle.qws_base.specs.declared.inks.Ink.TheVariants.{Skip, Copy}
 use Rattle.qws_base.specs.Points.{spans, holds}
 use Rattle.qws_base.specs.Sheets.{sheet_of, ink_at, row_of}
 use Rattle.qws_base.proofs.PictureLaws.{ink_of_sheet}
-use Rattle.gfx_lines.specs.declared.bounds.Bounds.{Bounds}
-use Rattle.gfx_lines.specs.Bounds.{bounds_of_point, grown, bounds_of, rect_of}
+use Rattle.qws_base.specs.declared.bounds.Bounds.{Bounds}
+use Rattle.qws_base.specs.Bounds.{bounds_of}
+use Rattle.qws_base.proofs.BoundsLemmas.{Holds, bounds_first, bounds_rest}
 use Rattle.gfx_lines.specs.Lines.{apart, toward, aside, is_flat, is_steep, steps, line_point, same_point, on_line}
-use Rattle.gfx_lines.specs.Strokes.{LineView, line_sheet, on_lines_from, on_polyline, polyline_reach}
+use Rattle.gfx_lines.specs.Strokes.{rect_of, LineView, line_sheet, on_lines_from, on_polyline, polyline_reach}
 use Rattle.gfx_lines.specs.Walks.{IsLaid}
 use Rattle.gfx_lines.proofs.Tests.{both_true, true_both, found, found_at, equal}
 use Rattle.gfx_lines.proofs.LineLemmas.{aside_of_walk, gone_within, toward_low, toward_high, on_slope, steps_of_flat, steps_of_steep, flat_line, steep_line, dot_line, dot_point}
 use Rattle.gfx_lines.proofs.RowLemmas.{pixel}
-
-pub record Holds (b : Bounds) (p : Point) : Type 0 where
-  pub left : b.left ≤ℤ p.x
-  pub right : p.x ≤ℤ b.right
-  pub top : b.top ≤ℤ p.y
-  pub bottom : p.y ≤ℤ b.bottom
-
--- ---- bounds that grow
-
-grown_holds : (b : Bounds) (p : Point) → Holds (grown b p) p
-grown_holds b p = record { left = omega (arith, ints, clamps); right = omega (arith, ints, clamps); top = omega (arith, ints, clamps); bottom = omega (arith, ints, clamps) }
-
-grown_keeps : (b : Bounds) (p q : Point) → Holds b q → Holds (grown b p) q
-grown_keeps b p q h = record {
-  left = omega (arith, ints, clamps, h.left);
-  right = omega (arith, ints, clamps, h.right);
-  top = omega (arith, ints, clamps, h.top);
-  bottom = omega (arith, ints, clamps, h.bottom);
-}
-
-fold_keeps : (b : Bounds) (ps : List Point) (q : Point) → Holds b q → Holds (fold grown b ps) q
-fold_keeps b [] q h = h
-fold_keeps b (p ∷ ps) q h = fold_keeps (grown b p) ps q (grown_keeps b p q h)
-
-fold_holds : (b : Bounds) (ps : List Point) → All (Holds (fold grown b ps)) ps
-fold_holds b [] = All-nil (Holds b)
-fold_holds b (p ∷ ps) = All-cons (Holds (fold grown (grown b p) ps)) p ps (fold_keeps (grown b p) ps p (grown_holds b p)) (fold_holds (grown b p) ps)
-
-pub bounds_first : (p : Point) (ps : List Point) → Holds (bounds_of p ps) p
-bounds_first p ps = fold_keeps (bounds_of_point p) ps p (record { left = omega (arith, ints); right = omega (arith, ints); top = omega (arith, ints); bottom = omega (arith, ints) })
-
-pub bounds_rest : (p : Point) (ps : List Point) → All (Holds (bounds_of p ps)) ps
-bounds_rest p ps = fold_holds (bounds_of_point p) ps
 
 le_test : (a b : ℤ) → a ≤ℤ b → int_le a b ≡ true
 le_test a b h = grind (arith, ints)

@@ -1,4 +1,3 @@
 pub mod Lines
 pub mod Walks
-pub mod Bounds
 pub mod Strokes

@@ -1,13 +1,18 @@
 -- What lines and polylines show.
-use Rattle.std.specs.Prelude.{ℕ, ◌≤◌, pos, Bool, false, ◌||◌, List, [], ◌∷◌, length, if◌then◌else◌}
+use Rattle.std.specs.Prelude.{ℕ, ◌+◌, ◌≤◌, pos, ◌-ℤ◌, nat_abs, Bool, false, ◌||◌, List, [], ◌∷◌, length, if◌then◌else◌}
 use Rattle.std.specs.List.{All}
 use Rattle.qws_base.specs.declared.points.Point.{Point}
 use Rattle.qws_base.specs.declared.points.Rect.{Rect}
 use Rattle.qws_base.specs.declared.inks.Ink.TheVariants.{Skip, Copy}
 use Rattle.qws_base.specs.Points.{IsPlaced}
 use Rattle.qws_base.specs.Sheets.{Sheet, sheet_of}
-use Rattle.gfx_lines.specs.Bounds.{bounds_of, rect_of}
+use Rattle.qws_base.specs.declared.bounds.Bounds.{Bounds}
+use Rattle.qws_base.specs.Bounds.{bounds_of}
 use Rattle.gfx_lines.specs.Lines.{on_line}
+
+-- the rectangle of the columns and rows within bounds, the outermost ones among them
+abbrev pub rect_of : Bounds → Rect
+rect_of b = record { x = b.left; y = b.top; w = nat_abs (b.right -ℤ b.left) + 1; h = nat_abs (b.bottom -ℤ b.top) + 1 }
 
 -- a line is seen as its ends and its colour
 pub record LineView : Type 0 where

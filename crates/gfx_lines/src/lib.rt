@@ -1,10 +1,10 @@
 //! Lines and polylines as pictures.
 #![tactic(auto)]
 
-mod bounds;
 mod laws;
 mod lines;
 mod polylines;
+mod reaches;
 mod walks;
 
 pub use laws::line_ends;

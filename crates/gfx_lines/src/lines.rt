@@ -1,7 +1,7 @@
 //! Lines: one colour at the points nearest to a straight line.
 ghost use Rattle.std.specs.Prelude.{◌≡◌};
 
-use crate::bounds::reach;
+use crate::reaches::reach;
 use crate::walks::{clear, lay_line};
 use qws_base::{Ink, Picture, Point, Rect, Rgb};
 use std::marker::Model;

@@ -2,7 +2,7 @@
 ghost use Rattle.std.specs.Prelude.{◌≡◌, ◌↔◌, ◌⊎◌, length, IfOk, IfErr, IsTrue};
 ghost use Rattle.gfx_lines.specs.Strokes.{IsPolylineCount};
 
-use crate::bounds::reach;
+use crate::reaches::reach;
 use crate::walks::{clear, lay_lines};
 use qws_base::{Ink, Picture, Point, Rect, Rgb};
 use std::alloc::Global;

@@ -1,14 +1,14 @@
 -- What a polygon shows: the points inside its ring.
-use Rattle.std.specs.Prelude.{ℕ, ◌%◌, ◌==◌, ◌≤◌, ℤ, pos, negsuc, ◌+ℤ◌, ◌-ℤ◌, ◌*ℤ◌, ◌≤ℤ◌, int_le, int_lt, nat_abs, Bool, false, ◌&&◌, List, [], ◌∷◌, length, slice_index_or, if◌then◌else◌}
-use Rattle.std.specs.List.{All, filter, fold}
-use Rattle.std.specs.Int.{int_min, int_max}
+use Rattle.std.specs.Prelude.{ℕ, ◌%◌, ◌==◌, ◌≤◌, ℤ, pos, ◌+ℤ◌, ◌-ℤ◌, ◌*ℤ◌, int_le, int_lt, nat_abs, Bool, false, ◌&&◌, List, [], ◌∷◌, length, slice_index_or, if◌then◌else◌}
+use Rattle.std.specs.List.{All, filter}
 use Rattle.qws_base.specs.declared.points.Point.{Point}
 use Rattle.qws_base.specs.declared.points.Rect.{Rect}
 use Rattle.qws_base.specs.declared.inks.Ink.{Ink}
 use Rattle.qws_base.specs.declared.inks.Ink.TheVariants.{Skip}
 use Rattle.qws_base.specs.Points.{IsPlaced}
 use Rattle.qws_base.specs.Sheets.{Sheet, sheet_of}
-use Rattle.gfx_polygons.specs.declared.bounds.Bounds.{Bounds}
+use Rattle.qws_base.specs.declared.bounds.Bounds.{Bounds}
+use Rattle.qws_base.specs.Bounds.{bounds_of}
 
 -- ---- the rule: in half pixels a vertex lies at doubled coordinates, and a point's centre half a pixel further
 
@@ -48,16 +48,6 @@ is_inside points p = counted (ring points) p % 2 == 1
 
 -- ---- the rectangle of its points
 
-abbrev pub bounds_of_point : Point → Bounds
-bounds_of_point p = record { left = p.x; top = p.y; right = p.x; bottom = p.y }
-
--- wide enough for a point more
-abbrev pub grown : Bounds → Point → Bounds
-grown b p = record { left = int_min b.left p.x; top = int_min b.top p.y; right = int_max b.right p.x; bottom = int_max b.bottom p.y }
-
-abbrev pub bounds_of : Point → List Point → Bounds
-bounds_of p ps = fold grown (bounds_of_point p) ps
-
 -- the pixels between the outermost vertices
 abbrev pub rect_of : Bounds → Rect
 rect_of b = record { x = b.left; y = b.top; w = nat_abs (b.right -ℤ b.left); h = nat_abs (b.bottom -ℤ b.top) }
@@ -65,15 +55,6 @@ rect_of b = record { x = b.left; y = b.top; w = nat_abs (b.right -ℤ b.left); h
 abbrev pub polygon_reach : List Point → Rect
 polygon_reach [] = record { x = pos 0; y = pos 0; w = 0; h = 0 }
 polygon_reach (a ∷ rest) = rect_of (bounds_of a rest)
-
--- bounds of points in -4,096 to 4,095
-pub record AreBounds (b : Bounds) : Type 0 where
-  pub low_x : negsuc 4095 ≤ℤ b.left
-  pub columns : b.left ≤ℤ b.right
-  pub high_x : b.right ≤ℤ pos 4095
-  pub low_y : negsuc 4095 ≤ℤ b.top
-  pub rows : b.top ≤ℤ b.bottom
-  pub high_y : b.bottom ≤ℤ pos 4095
 
 -- ---- the polygon
 

@@ -1,10 +1,10 @@
 //! Polygons as pictures.
 #![tactic(auto)]
 
-mod bounds;
 mod crossings;
 mod laws;
 mod polygons;
+mod reaches;
 mod rows;
 
 pub use laws::two_triangles;

@@ -2,8 +2,8 @@
 ghost use Rattle.std.specs.Prelude.{◌≡◌, ◌↔◌, ◌⊎◌, length, IfOk, IfErr, IsTrue};
 ghost use Rattle.gfx_polygons.specs.Polygons.{IsPolygonCount};
 
-use crate::bounds::reach;
 use crate::crossings::{crossings, fill_between};
+use crate::reaches::reach;
 use crate::rows::{clear, part};
 use qws_base::{Ink, Picture, Point, Rect};
 use std::alloc::Global;

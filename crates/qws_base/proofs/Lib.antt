@@ -1,3 +1,4 @@
+pub mod BoundsLemmas
 pub mod DepthLemmas
 pub mod PictureLaws
 pub mod StreamLemmas

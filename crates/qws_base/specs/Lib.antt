@@ -4,6 +4,7 @@ pub mod Sides
 pub mod Colours
 pub mod Inks
 pub mod Points
+pub mod Bounds
 pub mod Regions
 pub mod Windows
 pub mod Sheets

@@ -1,6 +1,7 @@
 //! The types that all crates of the window server share, and the definitions that their contracts speak of.
 #![tactic(auto)]
 
+mod bounds;
 mod colours;
 mod commands;
 mod gates;
@@ -16,6 +17,7 @@ mod std_edge;
 mod streams;
 mod windows;
 
+pub use bounds::Bounds;
 pub use colours::{Depth, Rgb, narrow, wide};
 pub use commands::Command;
 pub use gates::{Gate, NoGate, Place};

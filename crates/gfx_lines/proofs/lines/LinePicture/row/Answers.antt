@@ -3,11 +3,12 @@ use Rattle.std.proofs.lemmas.Int.{ints}
 use Rattle.std.proofs.lemmas.List.Elements.{All-head}
 use Rattle.qws_base.specs.declared.inks.Ink.TheVariants.{Copy}
 use Rattle.qws_base.specs.Sheets.{row_of}
-use Rattle.gfx_lines.specs.declared.bounds.Bounds.{Bounds}
-use Rattle.gfx_lines.specs.Bounds.{bounds_of, rect_of}
+use Rattle.qws_base.specs.declared.bounds.Bounds.{Bounds}
+use Rattle.qws_base.specs.Bounds.{bounds_of}
+use Rattle.qws_base.proofs.BoundsLemmas.{Holds, bounds_first, bounds_rest}
 use Rattle.gfx_lines.specs.Lines.{on_line}
-use Rattle.gfx_lines.specs.Strokes.{line_sheet}
-use Rattle.gfx_lines.proofs.ReachLemmas.{Holds, bounds_first, bounds_rest, line_within, holds_rect, row_of_laid}
+use Rattle.gfx_lines.specs.Strokes.{rect_of, line_sheet}
+use Rattle.gfx_lines.proofs.ReachLemmas.{line_within, holds_rect, row_of_laid}
 use Rattle.gfx_lines.proofs.lines.LinePicture.row.Goals as goal
 
 pub returns : goal.returns

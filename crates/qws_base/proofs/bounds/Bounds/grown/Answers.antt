@@ -1,6 +1,6 @@
 use Rattle.std.proofs.Common.{◌≡◌, to_z, of_z, w32, arith, ◌∙◌, refl}
 use Rattle.std.proofs.lemmas.Int.{ints, clamps}
-use Rattle.gfx_lines.proofs.bounds.Bounds.grown.Goals as goal
+use Rattle.qws_base.proofs.bounds.Bounds.grown.Goals as goal
 
 pub returns-clause-value : goal.returns-clause-value
 returns-clause-value c =

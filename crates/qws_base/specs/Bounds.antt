@@ -1,10 +1,9 @@
--- The least rectangle that holds some points.
-use Rattle.std.specs.Prelude.{◌+◌, pos, negsuc, ◌-ℤ◌, ◌≤ℤ◌, nat_abs, List}
+-- The outermost columns and rows of points.
+use Rattle.std.specs.Prelude.{pos, negsuc, ◌≤ℤ◌, List}
 use Rattle.std.specs.List.{fold}
 use Rattle.std.specs.Int.{int_min, int_max}
 use Rattle.qws_base.specs.declared.points.Point.{Point}
-use Rattle.qws_base.specs.declared.points.Rect.{Rect}
-use Rattle.gfx_lines.specs.declared.bounds.Bounds.{Bounds}
+use Rattle.qws_base.specs.declared.bounds.Bounds.{Bounds}
 
 abbrev pub bounds_of_point : Point → Bounds
 bounds_of_point p = record { left = p.x; top = p.y; right = p.x; bottom = p.y }
@@ -15,10 +14,6 @@ grown b p = record { left = int_min b.left p.x; top = int_min b.top p.y; right =
 
 abbrev pub bounds_of : Point → List Point → Bounds
 bounds_of p ps = fold grown (bounds_of_point p) ps
-
--- the rectangle of the columns and rows within bounds, the outermost ones among them
-abbrev pub rect_of : Bounds → Rect
-rect_of b = record { x = b.left; y = b.top; w = nat_abs (b.right -ℤ b.left) + 1; h = nat_abs (b.bottom -ℤ b.top) + 1 }
 
 -- bounds of points in -4,096 to 4,095
 pub record AreBounds (b : Bounds) : Type 0 where

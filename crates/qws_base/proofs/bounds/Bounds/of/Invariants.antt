@@ -1,7 +1,7 @@
 use Rattle.std.proofs.Common.{◌≡◌, take}
 use Rattle.std.specs.List.{fold}
-use Rattle.gfx_polygons.specs.Polygons.{grown, AreBounds}
-use Rattle.gfx_polygons.proofs.bounds.bounds_of.Given as goal
+use Rattle.qws_base.specs.Bounds.{grown, AreBounds}
+use Rattle.qws_base.proofs.bounds.Bounds.of.Given as goal
 
 abbrev pub invariant-loop-p : goal.invariant-loop-p
 invariant-loop-p l = record {
