@@ -10,7 +10,7 @@ use Rattle.gfx_polygons.specs.Polygons.{doubled, centre, counts_down, counts}
 use Rattle.gfx_polygons.specs.Crossings.{pixel, is_right, IsCrossing}
 use Rattle.gfx_polygons.proofs.Tests.{both_true, true_left, same_test, never}
 
-leb_from : (a b : ℕ) → a ≤ b → nat_le a b ≡ true
+pub leb_from : (a b : ℕ) → a ≤ b → nat_le a b ≡ true
 leb_from a b h = grind arith
 
 -- ---- products of differences
@@ -40,22 +40,23 @@ same_order x y m n s e f = grind (arith, ints)
 
 -- ---- an edge from its upper end to its lower one
 
-right_test : (u l p : Point) (U L P d t : ℕ) → pos U ≡ u.x +ℤ pos 8192 → pos L ≡ l.x +ℤ pos 8192 → pos P ≡ p.x +ℤ pos 8192 → pos d ≡ l.y -ℤ u.y → pos t ≡ centre p.y -ℤ doubled u.y
+-- columns are counted from any column on that is left of all three
+right_test : (s : ℕ) (u l p : Point) (U L P d t : ℕ) → pos U ≡ u.x +ℤ pos s → pos L ≡ l.x +ℤ pos s → pos P ≡ p.x +ℤ pos s → pos d ≡ l.y -ℤ u.y → pos t ≡ centre p.y -ℤ doubled u.y
     → int_le (doubled u.x *ℤ (doubled l.y -ℤ doubled u.y) +ℤ (centre p.y -ℤ doubled u.y) *ℤ (doubled l.x -ℤ doubled u.x)) (centre p.x *ℤ (doubled l.y -ℤ doubled u.y)) ≡ is_right U L d t P
-right_test u l p U L P d t eu el ep ed et =
+right_test s u l p U L P d t eu el ep ed et =
     let rows : doubled l.y -ℤ doubled u.y ≡ pos (2 * d) = omega (arith, ints) in
-    let left : doubled u.x ≡ pos (2 * U) -ℤ pos 16384 = omega (arith, ints) in
+    let left : doubled u.x ≡ pos (2 * U) -ℤ pos (2 * s) = omega (arith, ints) in
     let across : doubled l.x -ℤ doubled u.x ≡ pos (2 * L) -ℤ pos (2 * U) = omega (arith, ints) in
-    let middle : centre p.x ≡ pos (2 * P + 1) -ℤ pos 16384 = omega (arith, ints) in
-    let first : doubled u.x *ℤ (doubled l.y -ℤ doubled u.y) ≡ pos (2 * U * (2 * d)) -ℤ pos (16384 * (2 * d)) =
-    ap (λ z. z *ℤ (doubled l.y -ℤ doubled u.y)) left ∙ ap (λ z. (pos (2 * U) -ℤ pos 16384) *ℤ z) rows ∙ times (2 * U) 16384 (2 * d) in
+    let middle : centre p.x ≡ pos (2 * P + 1) -ℤ pos (2 * s) = omega (arith, ints) in
+    let first : doubled u.x *ℤ (doubled l.y -ℤ doubled u.y) ≡ pos (2 * U * (2 * d)) -ℤ pos (2 * s * (2 * d)) =
+    ap (λ z. z *ℤ (doubled l.y -ℤ doubled u.y)) left ∙ ap (λ z. (pos (2 * U) -ℤ pos (2 * s)) *ℤ z) rows ∙ times (2 * U) (2 * s) (2 * d) in
     let second : (centre p.y -ℤ doubled u.y) *ℤ (doubled l.x -ℤ doubled u.x) ≡ pos (2 * L * t) -ℤ pos (2 * U * t) =
     *ℤ_comm (centre p.y -ℤ doubled u.y) (doubled l.x -ℤ doubled u.x)
     ∙ ap (λ z. (doubled l.x -ℤ doubled u.x) *ℤ z) (sym et) ∙ ap (λ z. z *ℤ pos t) across ∙ times (2 * L) (2 * U) t in
-    let third : centre p.x *ℤ (doubled l.y -ℤ doubled u.y) ≡ pos ((2 * P + 1) * (2 * d)) -ℤ pos (16384 * (2 * d)) =
-    ap (λ z. z *ℤ (doubled l.y -ℤ doubled u.y)) middle ∙ ap (λ z. (pos (2 * P + 1) -ℤ pos 16384) *ℤ z) rows ∙ times (2 * P + 1) 16384 (2 * d) in
-    same_order _ _ (2 * U * (2 * d) + 2 * L * t) ((2 * P + 1) * (2 * d) + 2 * U * t) (16384 * (2 * d) + 2 * U * t)
-    (ap (λ z. z +ℤ (centre p.y -ℤ doubled u.y) *ℤ (doubled l.x -ℤ doubled u.x)) first ∙ ap (λ z. (pos (2 * U * (2 * d)) -ℤ pos (16384 * (2 * d))) +ℤ z) second ∙ omega (arith, ints))
+    let third : centre p.x *ℤ (doubled l.y -ℤ doubled u.y) ≡ pos ((2 * P + 1) * (2 * d)) -ℤ pos (2 * s * (2 * d)) =
+    ap (λ z. z *ℤ (doubled l.y -ℤ doubled u.y)) middle ∙ ap (λ z. (pos (2 * P + 1) -ℤ pos (2 * s)) *ℤ z) rows ∙ times (2 * P + 1) (2 * s) (2 * d) in
+    same_order _ _ (2 * U * (2 * d) + 2 * L * t) ((2 * P + 1) * (2 * d) + 2 * U * t) (2 * s * (2 * d) + 2 * U * t)
+    (ap (λ z. z +ℤ (centre p.y -ℤ doubled u.y) *ℤ (doubled l.x -ℤ doubled u.x)) first ∙ ap (λ z. (pos (2 * U * (2 * d)) -ℤ pos (2 * s * (2 * d))) +ℤ z) second ∙ omega (arith, ints))
     (third ∙ omega (arith, ints))
     ∙ same_test _ _
     (λ h. leb_from _ _ (omega (arith, leb-true (2 * U * (2 * d) + 2 * L * t) ((2 * P + 1) * (2 * d) + 2 * U * t) h)))
@@ -73,10 +74,10 @@ le_back a b h = grind (arith, ints)
 lt_back : (a b : ℤ) → int_lt (centre a) (doubled b) ≡ true → a <ℤ b
 lt_back a b h = grind (arith, ints)
 
-pub down_test : (u l p : Point) (U L P d t : ℕ) → u.y ≤ℤ p.y → p.y <ℤ l.y → pos U ≡ u.x +ℤ pos 8192 → pos L ≡ l.x +ℤ pos 8192 → pos P ≡ p.x +ℤ pos 8192 → pos d ≡ l.y -ℤ u.y
+pub down_test : (s : ℕ) (u l p : Point) (U L P d t : ℕ) → u.y ≤ℤ p.y → p.y <ℤ l.y → pos U ≡ u.x +ℤ pos s → pos L ≡ l.x +ℤ pos s → pos P ≡ p.x +ℤ pos s → pos d ≡ l.y -ℤ u.y
     → pos t ≡ centre p.y -ℤ doubled u.y → counts_down u l p ≡ is_right U L d t P
-down_test u l p U L P d t a b eu el ep ed et =
-    true_left _ _ (le_test u.y p.y a) ∙ true_left _ _ (lt_test p.y l.y b) ∙ right_test u l p U L P d t eu el ep ed et
+down_test s u l p U L P d t a b eu el ep ed et =
+    true_left _ _ (le_test u.y p.y a) ∙ true_left _ _ (lt_test p.y l.y b) ∙ right_test s u l p U L P d t eu el ep ed et
 
 is_lt : (a b : ℤ) → a <ℤ b → int_lt a b ≡ true
 is_lt a b h = grind (arith, ints)
@@ -99,7 +100,7 @@ counts_turned a b p = by (int_lt a.y b.y) (int_lt b.y a.y) refl refl where
   by false true e f = refl
   by false false e f = refl
 
-down_rows : (u l p : Point) → counts_down u l p ≡ true → (u.y ≤ℤ p.y) × (p.y <ℤ l.y)
+pub down_rows : (u l p : Point) → counts_down u l p ≡ true → (u.y ≤ℤ p.y) × (p.y <ℤ l.y)
 down_rows u l p h =
     let first = both_true (int_le (doubled u.y) (centre p.y)) _ h in
     let second = both_true (int_lt (centre p.y) (doubled l.y)) _ first.1 in
@@ -114,7 +115,7 @@ pub crossing_down : (a b : Point) (y x : ℤ) (n place U L X d t : ℕ) → a.y 
     → pos t ≡ y -ℤ a.y → ((k : ℕ) → is_right U L d (2 * t + 1) (X + k) ≡ nat_le place k) → IsCrossing a b y x n place
 crossing_down a b y x n place U L X d t lo hi eu el ex ed et h = record {
   at = λ k below. counts_first a b (pixel y x k) (omega (arith, ints))
-      ∙ down_test a b (pixel y x k) U L (X + k) d (2 * t + 1) lo hi eu el (omega (arith, ints)) ed (omega (arith, ints)) ∙ h k;
+      ∙ down_test 8192 a b (pixel y x k) U L (X + k) d (2 * t + 1) lo hi eu el (omega (arith, ints)) ed (omega (arith, ints)) ∙ h k;
 }
 
 pub crossing_turned : (a b : Point) (y x : ℤ) (n place : ℕ) → IsCrossing b a y x n place → IsCrossing a b y x n place

@@ -50,7 +50,7 @@ shared ca ab bc ad db =
     ∙ twice ab (flip ad (flip bc (flip db false)))
     ∙ ap (flip ad) (swapped bc db false))
 
-inside_is : (points : List Point) (p : Point) → is_inside points p ≡ odd (λ e. counts e.0 e.1 p) (ring points)
+pub inside_is : (points : List Point) (p : Point) → is_inside points p ≡ odd (λ e. counts e.0 e.1 p) (ring points)
 inside_is points p = odd_is (λ e. counts e.0 e.1 p) (ring points)
 
 pub triangles : (a b c d p : Point) → is_inside (a ∷ d ∷ b ∷ c ∷ []) p ≡ cond (is_inside (a ∷ b ∷ c ∷ []) p) (not (is_inside (a ∷ b ∷ d ∷ []) p)) (is_inside (a ∷ b ∷ d ∷ []) p)

@@ -2,4 +2,5 @@ pub mod Tests
 pub mod EdgeLemmas
 pub mod PlaceLemmas
 pub mod LawLemmas
+pub mod BoxLemmas
 pub mod RowLemmas

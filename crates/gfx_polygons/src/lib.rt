@@ -7,5 +7,5 @@ mod polygons;
 mod reaches;
 mod rows;
 
-pub use laws::two_triangles;
+pub use laws::{inside_within, two_triangles};
 pub use polygons::{PointStop, Polygon};
