@@ -1,12 +1,15 @@
 //! Frames: how bytes spell commands and replies.
 #![tactic(auto)]
 
+mod building;
 mod checks;
 mod decode;
+mod encode;
 mod fields;
 mod laws;
 mod stops;
 
 pub use decode::{decode_command, decode_reply};
+pub use encode::{encode_command, encode_reply};
 pub use laws::{one_command, one_reply, spelled_command_passes, spelled_reply_passes};
 pub use stops::{EncodeStop, FrameStop};
