@@ -1,2 +1,4 @@
 pub mod LawLemmas
 pub mod SoundLemmas
+pub mod EncodeLemmas
+pub mod FrameLemmas

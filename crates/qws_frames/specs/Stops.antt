@@ -1,7 +1,15 @@
--- Why bytes are no frame: the first cause in a fixed order.
-use Rattle.std.specs.Prelude.{◌≡◌, ℕ, ◌+◌, ◌*◌, ◌%◌, nat_le, nat_lt, Bool, true, false, not, ◌&&◌, ◌||◌, ◌==◌, List, [], ◌∷◌, length, Option, Some, None, Result, Ok, Err, if◌then◌else◌}
+-- Why bytes are no frame: the first cause in a fixed order. Why a command or a reply has no frame.
+use Rattle.std.specs.Prelude.{◌≡◌, ℕ, ◌+◌, ◌-◌, ◌*◌, ◌%◌, ◌^◌, min, nat_le, nat_lt, Bool, true, false, not, ◌&&◌, ◌||◌, ◌==◌, List, [], ◌∷◌, length, Option, Some, None, Result, Ok, Err, if◌then◌else◌}
 use Rattle.std.specs.Option.{option_or}
+use Rattle.qws_base.specs.declared.commands.Command.{Command}
+use Rattle.qws_base.specs.declared.commands.Command.TheVariants.{Region, CursorShape, Join, Leave, Send, IsRegistered}
+use Rattle.qws_base.specs.declared.replies.Event.{Event}
+use Rattle.qws_base.specs.declared.replies.Event.TheVariants.{Message}
+use Rattle.qws_base.specs.declared.replies.Reply.{Reply}
+use Rattle.qws_base.specs.declared.replies.Reply.TheVariants as reply
 use Rattle.qws_frames.specs.Layout.{u16_at, u32_at}
+use Rattle.qws_frames.specs.declared.stops.EncodeStop.{EncodeStop}
+use Rattle.qws_frames.specs.declared.stops.EncodeStop.TheVariants as encode
 use Rattle.qws_frames.specs.declared.stops.FrameStop.{FrameStop}
 use Rattle.qws_frames.specs.declared.stops.FrameStop.TheVariants.{Short, BadType, BadLength, BadField, TooLong, OutOfMemory}
 
@@ -94,3 +102,43 @@ refusal_in (Err stop) = stop_of stop
 abbrev pub IsOrNoMemory : {X : Type 0} → Result X FrameStop → X → Type 0
 IsOrNoMemory (Ok y) x = y ≡ x
 IsOrNoMemory (Err stop) x = stop ≡ OutOfMemory
+
+-- ---- what has no frame
+
+-- why no frame has a raw part of so many bytes
+abbrev pub raw_refusal : ℕ → Option EncodeStop
+raw_refusal raw = if nat_lt 65536 raw then Some (encode.TooLong raw) else None
+
+-- a length of three parts in a number of 64 bits, whose last value stands for all above it; no memory holds so many bytes
+abbrev pub told_length : ℕ → ℕ
+told_length raw = min raw (2 ^ 64 - 1)
+
+-- why no frame has a channel, a message and a payload of these lengths; the first two have 16 bits each
+abbrev pub letter_refusal : ℕ → ℕ → ℕ → Option EncodeStop
+letter_refusal channel message payload =
+    let raw = channel + message + payload in
+    if (nat_lt 65536 raw) || (nat_lt 65535 channel || nat_lt 65535 message) then Some (encode.TooLong (told_length raw)) else None
+
+-- why a command has no frame
+abbrev pub command_refusal : Command → Option EncodeStop
+command_refusal (Region slot origin rects) = raw_refusal (16 * length rects)
+command_refusal (CursorShape w h cells) = raw_refusal (4 * length cells)
+command_refusal (Join channel) = raw_refusal (length channel)
+command_refusal (Leave channel) = raw_refusal (length channel)
+command_refusal (Send channel message payload) = letter_refusal (length channel) (length message) (length payload)
+command_refusal (IsRegistered channel) = raw_refusal (length channel)
+command_refusal _ = None
+
+-- why a reply has no frame
+abbrev pub reply_refusal : Reply → Option EncodeStop
+reply_refusal (reply.Event (Message channel from message payload)) = letter_refusal (length channel) (length message) (length payload)
+reply_refusal _ = None
+
+-- the cause for which there is no frame; none where there is one, or where memory lacked alone
+abbrev pub encode_stop_of : EncodeStop → Option EncodeStop
+encode_stop_of encode.OutOfMemory = None
+encode_stop_of stop = Some stop
+
+abbrev pub encode_refusal_in : {X : Type 0} → Result X EncodeStop → Option EncodeStop
+encode_refusal_in (Ok x) = None
+encode_refusal_in (Err stop) = encode_stop_of stop

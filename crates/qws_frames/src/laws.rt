@@ -27,6 +27,28 @@ pub fn one_reply(first: &Reply, second: &Reply, bytes: &[u8])
     let _ = bytes;
 }
 
+/// A command has at most one frame.
+pub fn one_command_frame(command: &Command, first: &[u8], second: &[u8])
+    requires first { SpellsCommand command.now first.now }
+    requires second { SpellsCommand command.now second.now }
+    ensures { first.now ≡ second.now }
+{
+    let _ = command;
+    let _ = first;
+    let _ = second;
+}
+
+/// A reply has at most one frame.
+pub fn one_reply_frame(reply: &Reply, first: &[u8], second: &[u8])
+    requires first { SpellsReply reply.now first.now }
+    requires second { SpellsReply reply.now second.now }
+    ensures { first.now ≡ second.now }
+{
+    let _ = reply;
+    let _ = first;
+    let _ = second;
+}
+
 /// No cause refuses the bytes of a command.
 pub fn spelled_command_passes(command: &Command, bytes: &[u8])
     requires { SpellsCommand command.now bytes.now }
