@@ -18,7 +18,7 @@ pub enum PointStop {
 }
 
 /// One colour at the points of the lines between neighbours in a list. Contracts see the list and the colour.
-#[derive(Drop)]
+#[derive(Debug, Drop)]
 pub struct Polyline {
     points: Vec<Point>,
     colour: Rgb,

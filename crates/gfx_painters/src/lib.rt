@@ -1,4 +1,4 @@
-//! Everything that can be painted, as one type.
+//! Everything that can be painted, as one type: a paint is a picture of one of seven kinds.
 #![tactic(auto)]
 
 mod paints;

@@ -19,7 +19,7 @@ pub enum PointStop {
 }
 
 /// One ink at the points inside the closed ring of some points. Contracts see the points and the ink.
-#[derive(Drop)]
+#[derive(Debug, Drop)]
 pub struct Polygon {
     points: Vec<Point>,
     ink: Ink,

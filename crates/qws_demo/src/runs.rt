@@ -18,12 +18,12 @@ use std::alloc::Global;
 use window_core::Core;
 
 // What the call of line `j` means now, with its client.
-fn line_call(
+fn line_call<'a>(
     alloc: Global,
-    script: &Script,
+    script: &'a Script,
     callers: &[Caller],
     j: u64,
-) -> Result<(u32, Call), OutOfMemory>
+) -> Result<(u32, Call<'a>), OutOfMemory>
     requires below { j < length script.now.calls }
     requires callers { AreCallers script.now (front script.now j) callers.now }
     ensures client { IfOk result (λ made. made.0 ≡ (line_at script.now j).client) }
@@ -44,7 +44,7 @@ fn line_answer(
     canvas: &mut Canvas,
     j: u64,
     client: u32,
-    call: &Call,
+    call: &Call<'_>,
 ) -> Result<Answer, OutOfMemory>
     requires below { j < length script.now.calls }
     requires session { IsSession script.now }

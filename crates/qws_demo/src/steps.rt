@@ -78,7 +78,13 @@ fn make_step(
 }
 
 // A paint of a client.
-fn make_paint(core: &Core, canvas: &mut Canvas, client: u32, slot: u32, paint: &Paint) -> PaintReply
+fn make_paint(
+    core: &Core,
+    canvas: &mut Canvas,
+    client: u32,
+    slot: u32,
+    paint: &Paint<'_>,
+) -> PaintReply
     requires size { canvas.old.setting.size ≡ core.now.size }
     ensures setting { canvas.new.setting ≡ canvas.old.setting }
     ensures scene { canvas.new.scene ≡ scene_after_paint canvas.old.setting (layout_of canvas.old.setting.size core.now.state.windows) client slot (paint_sheet paint.now) canvas.old.scene }
@@ -93,7 +99,7 @@ pub fn make_call(
     core: &mut Core,
     canvas: &mut Canvas,
     client: u32,
-    call: &Call,
+    call: &Call<'_>,
 ) -> Result<Answer, OutOfMemory>
     requires client { client ≡ 0 }
     requires call { IsMakeable core.old.state call.now }

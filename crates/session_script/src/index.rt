@@ -8,7 +8,7 @@ use std::alloc::Global;
 use std::marker::Model;
 
 /// The places of a client's lines among all. Contracts see a list.
-#[derive(Drop)]
+#[derive(Debug, Drop)]
 pub(crate) struct Places {
     items: Vec<usize>,
 }

@@ -20,11 +20,14 @@ pub struct Place {
     pub slot: u32,
 }
 
-/// What a client calls: a command, or a paint of the window in a slot.
+/// What a client calls: a command, or a paint of the window in a slot. A paint may borrow images and fonts of the script for
+/// `'a`.
 #[derive(Debug, Drop)]
-pub enum Call {
+pub enum Call<'a> {
+    /// A command to the server.
     Step { command: Command },
-    Paint { slot: u32, paint: Paint },
+    /// A picture to paint, local to the origin of the window in the slot. Slot 32 stands for no window.
+    Paint { slot: u32, paint: Paint<'a> },
 }
 
 /// The names that a client has given so far. Contracts see the client's number and the places.
@@ -65,7 +68,7 @@ fn slot(places: &[Place], window: &Window) -> u32
 }
 
 // What a call means with these names.
-fn meaning(alloc: Global, places: &[Place], call: &LineCall) -> Result<Call, OutOfMemory>
+fn meaning<'a>(alloc: Global, places: &[Place], call: &'a LineCall) -> Result<Call<'a>, OutOfMemory>
     requires { IsCall call.now }
     ensures { IfOk result (λ made. made ≡ meaning places.now call.now) }
 {
@@ -123,8 +126,13 @@ impl Names {
         })
     }
 
-    /// What the client's call `k`, counted from 0, means now.
-    pub fn call(&self, alloc: Global, script: &Script, k: u64) -> Result<Call, OutOfMemory>
+    /// What the client's call `k`, counted from 0, means now. A paint borrows its images and fonts from the script.
+    pub fn call<'a>(
+        &self,
+        alloc: Global,
+        script: &'a Script,
+        k: u64,
+    ) -> Result<Call<'a>, OutOfMemory>
         requires { k < length (lines_by script.now self.now.client) }
         ensures { IfOk result (λ call. option_map (λ line. meaning self.now.places line.call) (call_line script.now self.now.client k) ≡ Some call) }
     {

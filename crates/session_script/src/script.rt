@@ -14,7 +14,7 @@ use std::alloc::Global;
 use std::marker::Model;
 
 /// A script. Contracts see what it says.
-#[derive(Drop)]
+#[derive(Debug, Drop)]
 pub struct Script {
     depth: Depth,
     size: Size,
