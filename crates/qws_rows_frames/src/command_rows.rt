@@ -1,4 +1,5 @@
 //! Frames of commands: the bytes of each, and what has none.
+use crate::samples::{letters, text_of};
 use qws_base::{Bytes, Command, Point, Rect, Rects, Words};
 use qws_frames::{EncodeStop, command_round_trip, decode_command, encode_command};
 use std::alloc::Global;
@@ -7,12 +8,13 @@ use std::test::Fail;
 
 // A command encodes to exactly these bytes, and they decode to it.
 fn is_frame_of(rt: &impl Abort, alloc: Global, command: Command, bytes: &[u8]) -> Result<(), Fail> {
-    let text = format!(in alloc; "{command:?}")?;
     let frame = encode_command(alloc, &command)?;
-    assert_eq!(rt; frame.as_slice(), bytes, "of {text}");
-    let decoded = decode_command(alloc, bytes)?;
-    let back = format!(in alloc; "{decoded:?}")?;
-    assert_eq!(rt; back.as_str(), text.as_str());
+    assert_eq!(rt; frame.as_slice(), bytes);
+    let back = decode_command(alloc, bytes)?;
+    assert_eq!(rt;
+        text_of(alloc, &back)?.as_str(),
+        text_of(alloc, &command)?.as_str()
+    );
     Ok(())
 }
 
@@ -132,10 +134,6 @@ fn length_of(alloc: Global, command: Command) -> Result<usize, EncodeStop> {
     Ok(frame.len())
 }
 
-fn long(alloc: Global, len: usize) -> Result<Bytes, Fail> {
-    Ok(Bytes::of(vec![in alloc; 97; len]?))
-}
-
 fn too_long(found: u64) -> Result<usize, EncodeStop> {
     Err(EncodeStop::TooLong { found })
 }
@@ -144,7 +142,7 @@ fn too_long(found: u64) -> Result<usize, EncodeStop> {
 fn raw_parts_of_65536_bytes(rt: HostRuntime) -> Result<(), Fail> {
     let alloc = rt.alloc();
     for (len, want) in [(65536, Ok(65544)), (65537, too_long(65537))] {
-        let channel = long(alloc, len)?;
+        let channel = letters(alloc, b'a', len)?;
         assert_eq!(rt; length_of(alloc, Command::Join { channel }), want);
     }
     for (len, want) in [(16384, Ok(65552)), (16385, too_long(65540))] {
@@ -187,9 +185,9 @@ fn names_of_65535_bytes(rt: HostRuntime) -> Result<(), Fail> {
         (65536, 65536, 1, too_long(131073)),
     ] {
         let send = Command::Send {
-            channel: long(alloc, channel)?,
-            message: long(alloc, message)?,
-            payload: long(alloc, payload)?,
+            channel: letters(alloc, b'a', channel)?,
+            message: letters(alloc, b'b', message)?,
+            payload: letters(alloc, b'c', payload)?,
         };
         assert_eq!(rt; length_of(alloc, send), want);
     }

@@ -7,3 +7,5 @@ mod command_rows;
 mod refusal_rows;
 #[cfg(test)]
 mod reply_rows;
+#[cfg(test)]
+mod samples;

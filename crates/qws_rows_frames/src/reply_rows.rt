@@ -1,5 +1,6 @@
 //! Frames of replies: the bytes of each, and what has none.
-use qws_base::{Bytes, Event, Refusal, Reply};
+use crate::samples::{letters, text_of};
+use qws_base::{Event, Refusal, Reply};
 use qws_frames::{EncodeStop, decode_reply, encode_reply, reply_round_trip};
 use std::alloc::Global;
 use std::process::Abort;
@@ -7,22 +8,23 @@ use std::test::Fail;
 
 // A reply encodes to exactly these bytes, and they decode to it.
 fn is_frame_of(rt: &impl Abort, alloc: Global, reply: Reply, bytes: &[u8]) -> Result<(), Fail> {
-    let text = format!(in alloc; "{reply:?}")?;
     let frame = encode_reply(alloc, &reply)?;
-    assert_eq!(rt; frame.as_slice(), bytes, "of {text}");
-    let decoded = decode_reply(alloc, bytes)?;
-    let back = format!(in alloc; "{decoded:?}")?;
-    assert_eq!(rt; back.as_str(), text.as_str());
+    assert_eq!(rt; frame.as_slice(), bytes);
+    let back = decode_reply(alloc, bytes)?;
+    assert_eq!(rt;
+        text_of(alloc, &back)?.as_str(),
+        text_of(alloc, &reply)?.as_str()
+    );
     Ok(())
 }
 
 // A message of these lengths.
 fn message(alloc: Global, channel: usize, message: usize, payload: usize) -> Result<Reply, Fail> {
     let event = Event::Message {
-        channel: Bytes::of(vec![in alloc; 97; channel]?),
+        channel: letters(alloc, b'a', channel)?,
         from: 15,
-        message: Bytes::of(vec![in alloc; 98; message]?),
-        payload: Bytes::of(vec![in alloc; 99; payload]?),
+        message: letters(alloc, b'b', message)?,
+        payload: letters(alloc, b'c', payload)?,
     };
     Ok(Reply::Event { event })
 }
