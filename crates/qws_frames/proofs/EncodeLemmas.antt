@@ -1,6 +1,6 @@
 -- What bytes that are written one after the other read as.
-use Rattle.std.proofs.Common.{◌≡◌, Fits, ℕ, zero, suc, ◌+◌, ◌*◌, ◌^◌, ◌++◌, ◌∷◌, [], ◌<◌, ◌≤◌, List, length, length-append, get_or, slice_index, take, drop, append-nil, append_assoc, ℤ, pos, map, refl, sym, ap, subst, ◌∙◌, arith}
-use Rattle.std.specs.List.{flat_map, range_with_len, All}
+use Rattle.std.proofs.Common.{◌≡◌, Fits, ℕ, zero, suc, ◌+◌, ◌*◌, ◌^◌, ◌++◌, ◌∷◌, [], ◌<◌, ◌≤◌, List, length, length-append, get_or, take, drop, append-nil, append_assoc, ℤ, pos, refl, sym, ap, ◌∙◌, arith}
+use Rattle.std.specs.List.{flat_map, All}
 use Rattle.std.specs.Prelude.{FitsSigned}
 use Rattle.std.specs.Int.{w32, cast_signed, cast_unsigned}
 use Rattle.std.proofs.lemmas.Int.{ints, to_z-of_z}
@@ -8,11 +8,11 @@ use Rattle.std.proofs.lemmas.List.{take_at, take_more, flat_map_more, drop_at}
 use Rattle.std.proofs.lemmas.List.Elements.{All-head, All-tail}
 use Rattle.std.proofs.lemmas.List.FromFn.{fill_by_all}
 use Rattle.byteorder.specs.Endian.{little_from, little_bytes}
-use Rattle.byteorder.specs.Numbers.{little_from-cons, little_from-take, length-bytes_low_first, little_number-reads_back}
+use Rattle.byteorder.specs.Numbers.{little_from-cons, little_from-take, little_number-reads_back}
 use Rattle.qws_base.specs.declared.points.Point.{Point}
 use Rattle.qws_base.specs.declared.points.Rect.{Rect}
 use Rattle.qws_base.specs.declared.commands.Command.TheVariants.{Region, CursorShape}
-use Rattle.qws_frames.specs.Layout.{u16_at, u32_at, i32_at, rect_at, rects_at, words_at, IsFrame, SpellsCommand}
+use Rattle.qws_frames.specs.Layout.{u16_at, u32_at, rect_at, rects_at, words_at, IsFrame, SpellsCommand}
 use Rattle.qws_frames.specs.Encoding.{head_bytes, words_bytes, rect_words, rects_bytes, IsRect, IsPlain, IsNamed, IsLetter}
 
 -- one more item is written

@@ -1,6 +1,5 @@
 -- A command and a reply have at most one frame: what is read fixes the bytes.
-use Rattle.std.proofs.Common.{◌≡◌, Fits, w8, ℕ, zero, suc, ◌+◌, ◌-◌, ◌*◌, ◌^◌, ◌∷◌, [], ◌<◌, ◌≤◌, List, length, get_or, drop, ℤ, pos, map, inl, inr, refl, sym, ap, ◌∙◌, arith}
-use Rattle.std.specs.List.{range_with_len}
+use Rattle.std.proofs.Common.{◌≡◌, Fits, w8, ℕ, zero, suc, ◌+◌, ◌-◌, ◌*◌, ◌^◌, ◌<◌, List, length, get_or, drop, pos, inl, inr, refl, sym, ap, ◌∙◌, arith}
 use Rattle.std.specs.Int.{w32, cast_signed, cast_unsigned}
 use Rattle.std.proofs.lemmas.Bool.{cases_lt}
 use Rattle.std.proofs.lemmas.Int.{of_z-to_z}
@@ -18,7 +17,7 @@ use Rattle.qws_base.specs.declared.replies.Refusal.{Refusal}
 use Rattle.qws_base.specs.declared.replies.Refusal.TheVariants.{NoWindow, NotYours, NoSlot, BadLayer, BadRegion, TooComplex, OffScreen, BadShape, Joined, TooManyChannels, BadName, NotJoined, NoChannel, MailboxFull, TooLarge, Empty}
 use Rattle.qws_base.specs.declared.replies.Reply.{Reply}
 use Rattle.qws_base.specs.declared.replies.Reply.TheVariants as reply
-use Rattle.qws_frames.specs.Layout.{u16_at, u32_at, i32_at, point_at, rect_at, rects_at, words_at, truth_of, IsFrame, SpellsCommand, SpellsCause, SpellsEvent, SpellsReply}
+use Rattle.qws_frames.specs.Layout.{u32_at, i32_at, point_at, rect_at, rects_at, words_at, IsFrame, SpellsCommand, SpellsCause, SpellsEvent, SpellsReply}
 
 -- two lists of bytes that agree at the first places
 pub record Agree (xs ys : List ℕ) (n : ℕ) : Type 0 where

@@ -1,6 +1,6 @@
 -- How bytes spell a command and a reply. A frame is the type in 16 bits, the length of its simple part in 16, the length of
 -- its raw part in 32, the simple part and the raw part. Numbers have their lowest byte first.
-use Rattle.std.specs.Prelude.{◌≡◌, ℕ, ◌+◌, ◌*◌, ◌≤◌, ℤ, Bool, true, false, ◌==◌, List, [], ◌∷◌, ◌++◌, map, length, drop, if◌then◌else◌}
+use Rattle.std.specs.Prelude.{◌≡◌, ℕ, ◌+◌, ◌*◌, ◌≤◌, ℤ, Bool, true, false, List, ◌++◌, map, length, drop}
 use Rattle.std.specs.List.{range_with_len}
 use Rattle.std.specs.Int.{w32, cast_signed}
 use Rattle.byteorder.specs.Endian.{little_from}

@@ -3,7 +3,6 @@ use Rattle.std.specs.Prelude.{◌≡◌, ℕ, ◌+◌, ◌-◌, ◌*◌, ◌%◌
 use Rattle.std.specs.Option.{option_or}
 use Rattle.qws_base.specs.declared.commands.Command.{Command}
 use Rattle.qws_base.specs.declared.commands.Command.TheVariants.{Region, CursorShape, Join, Leave, Send, IsRegistered}
-use Rattle.qws_base.specs.declared.replies.Event.{Event}
 use Rattle.qws_base.specs.declared.replies.Event.TheVariants.{Message}
 use Rattle.qws_base.specs.declared.replies.Reply.{Reply}
 use Rattle.qws_base.specs.declared.replies.Reply.TheVariants as reply

@@ -1,4 +1,4 @@
-use Rattle.std.proofs.Common.{◌≡◌, ℕ, List, take, drop, sym, ap, ◌∙◌, rules}
+use Rattle.std.proofs.Common.{◌≡◌, take, drop, ap, ◌∙◌, rules}
 use Rattle.qws_frames.proofs.SoundLemmas.{letter_parts, rest_from}
 use Rattle.qws_frames.proofs.decode.letter_at.Goals as goal
 

@@ -1,5 +1,4 @@
 use Rattle.std.proofs.Common.{◌≡◌, ℕ, ◌==◌, w32, to_z, of_z, false, sym, refl, ap, ◌∙◌, arith}
-use Rattle.std.proofs.lemmas.Bool.Decides.{nat_tests}
 use Rattle.std.proofs.lemmas.Int.{ints}
 use Rattle.qws_frames.specs.Layout.{u16_at, truth_of}
 use Rattle.qws_frames.proofs.SoundLemmas.{sound, without_raw, truth_at, is_take}

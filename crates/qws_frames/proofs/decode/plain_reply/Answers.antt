@@ -1,7 +1,6 @@
 use Rattle.std.proofs.Common.{◌≡◌, ℕ, ◌==◌, true, ◌<◌, ◌≤◌, sym, subst, refl, ap, ◌∙◌, arith}
-use Rattle.std.proofs.lemmas.Bool.Decides.{nat_tests}
 use Rattle.qws_frames.specs.Layout.{u16_at, truth_of}
-use Rattle.qws_frames.proofs.SoundLemmas.{sound, without_raw, truth_at, number_range, first_unused, second_unused, is_refused, cause_at}
+use Rattle.qws_frames.proofs.SoundLemmas.{sound, without_raw, truth_at, number_range, second_unused, is_refused, cause_at}
 use Rattle.qws_frames.specs.Stops.{is_known, field_count}
 use Rattle.qws_frames.proofs.decode.plain_reply.Goals as goal
 
