@@ -1,11 +1,10 @@
 -- Which pixel words a client may read and write in a turn.
-use Rattle.std.specs.Prelude.{◌≡◌, ℕ, ◌+◌, ◌/◌, ◌%◌, ◌^◌, ◌<◌, ◌==◌, ◌⊎◌, ⊤, List, [], Option, Some, None, slice_index}
+use Rattle.std.specs.Prelude.{◌≡◌, ℕ, ◌+◌, ◌/◌, ◌%◌, ◌^◌, ◌<◌, ◌==◌, ◌⊎◌, List, [], Option, Some, slice_index}
 use mathlib.Core.Option.{some}
 use lib.ListN.{get_elem?}
 use Rattle.qws_base.specs.Sides.{Sides}
 use Rattle.qws_base.specs.Points.{point_of, pixel_count}
 use Rattle.qws_base.specs.Shown.{cell_on}
-use Rattle.qws_base.specs.declared.points.Point.{Point}
 use Rattle.qws_base.specs.declared.windows.Cursor.{Cursor}
 use Rattle.region_table.specs.Numbers.{row_word, pixel_word, saved_word}
 use Rattle.fb_words.specs.declared.known.Item.{Item}
