@@ -1,5 +1,5 @@
 -- A pick or a put of an open paint turn keeps the words and the world in step.
-use Rattle.std.proofs.Common.{◌≡◌, ℕ, suc, ◌+◌, ◌<◌, ◌≢◌, ⊎_elim, inl, inr, List, [], ◌∷◌, ◌++◌, length, get_or, set, length-set, sym, refl, ap, ◌∙◌, subst, arith, Some, false}
+use Rattle.std.proofs.Common.{◌≡◌, ℕ, suc, ◌+◌, ◌<◌, ◌≢◌, ⊎_elim, inr, List, [], ◌∷◌, ◌++◌, length, get_or, set, length-set, sym, refl, ap, ◌∙◌, subst, arith, Some, false}
 use Rattle.std.proofs.lemmas.List.{get_or-set_other, get_or-set_same}
 use mathlib.Core.Option.{some, none}
 use mathlib.Core.Logic.{dite}
@@ -18,7 +18,6 @@ use Rattle.fb_words.specs.declared.known.Mode.TheVariants.{Idle, Refused, Readin
 use Rattle.fb_words.specs.declared.known.Client.{Client}
 use Rattle.fb_words.specs.declared.known.View.{View}
 use Rattle.fb_words.specs.Lines.{item_word, written, Shows}
-use Rattle.fb_words.specs.Tables.{RectHas}
 use Rattle.fb_words.specs.Segments.{line, first_value, LineOk}
 use Rattle.fb_words.specs.Clips.{look_of, stamp_in, slot_in, looked_in, log_in, IsClip}
 use Rattle.fb_words.specs.Rights.{IsSavedOver, IsGiven, Owns}
@@ -28,11 +27,12 @@ use Rattle.fb_words.specs.Steps.{item_mode, after_item, picked, put}
 use Rattle.fb_words.proofs.Places.{each_of, each_set}
 use Rattle.fb_words.proofs.Totals.{total_set}
 use Rattle.fb_words.proofs.Joining.{written-append, shows-append}
-use Rattle.fb_words.proofs.Rows.{none_some, line_far, look_true, seen_row, kept_is}
+use Rattle.fb_words.proofs.Rows.{none_some, line_far, seen_row, kept_is}
 use Rattle.fb_words.proofs.Cells.{word_far, word_within}
-use Rattle.fb_words.proofs.Spreads.{with_client, client_steps, place_within}
+use Rattle.fb_words.proofs.Spreads.{with_client, client_steps}
 use Rattle.fb_words.proofs.Gate.{looks_kept, tables_kept, part_of, IsAlone}
 use Rattle.fb_words.proofs.Painting.{before, grown, others_away, late_none, line_gains, line_stays}
+use Rattle.fb_words.proofs.Keeping.{owned_in}
 use Rattle.fb_words.proofs.Looking.{no_turn, present_table, looks_present, looks_in, stamped_reads, stamp_now}
 
 abbrev Mine : Type 0
@@ -41,25 +41,12 @@ Mine = Me (Unit {0}) View
 -- what a client owns in its turn, the present table gives it
 pub owned : (key : Setting) (words : List ℕ) (w : World) (p : Client) (x : ℕ) → Fits key words w → get_elem? w.clients p.number ≡ some p → is_writing w.server.mode ≡ false → (o : Owns p x) → IsGiven key.size w.server.present p.number o.clip.slot x
 owned key words w p x f at idle o =
-    let s = w.server in let t = s.present in let setting = (f.seats p.number p at).setting_is in let last = f.tables.last idle in
-    let looks = looks_present key.size words s p.mode f.tables (f.looks p.number p at) in let true_in = looks_in t (length s.closed) p.mode looks in
+    let s = w.server in let t = s.present in let last = f.tables.last idle in
+    let looks = looks_present key.size words s p.mode f.tables (f.looks p.number p at) in
     let clip_ok : IsClip key.size t p.number o.clip = (kept_is p o.clip.slot o.clip (IsClip key.size t p.number)
     (λ c e. (seen_row key.size (length s.limits) (length s.closed) p.number t p.mode c (present_table key words w f idle) looks e).0)
     (λ k c e. f.clips p.number p at k c t e last) o.kept_clip).0 in
-    let row = clip_ok.same (sym (look_true t (looked_in p.mode) _ _ true_in o.current).1) in
-    let rect = row.rects o.rect o.rect_word o.rect_at in record {
-      slot_in = clip_ok.slot_in;
-      owner = row.owner;
-      rect = o.rect;
-      pixel = o.pixel;
-      on_screen = subst (λ k. o.pixel < pixel_count k.size) setting o.on_screen;
-      holds = (subst (λ n. o.rect < n) (sym row.count) (place_within o.clip.rects o.rect o.rect_word o.rect_at), subst (λ v. RectHas key.size v o.pixel) (sym rect) (subst (λ k. RectHas k.size o.rect_word o.pixel) setting o.holds));
-      word = ⊎_elim (λ (e : x ≡ pixel_word o.pixel). inl e)
-          (λ (d : (place : ℕ) × (shape : ℕ) × (look_of (looked_in p.mode) 2 ≡ Some place) × (look_of (looked_in p.mode) 3 ≡ Some shape) × IsSavedOver p.setting.size place shape o.pixel x).
-          inr (subst (λ a. IsSavedOver key.size a (get_or t 3 0) o.pixel x) (sym (look_true t (looked_in p.mode) 2 d.0 true_in d.2).1)
-          (subst (λ b. IsSavedOver key.size d.0 b o.pixel x) (sym (look_true t (looked_in p.mode) 3 d.1 true_in d.3).1) (subst (λ k. IsSavedOver k.size d.0 d.1 o.pixel x) setting d.4))))
-          o.word;
-    }
+    owned_in key.size t p x o (ap (λ k. k.size) (f.seats p.number p at).setting_is) (looks_in t (length s.closed) p.mode looks) clip_ok
 
 pub owns_within : (p : Client) (x : ℕ) → Owns p x → x < 10632 + pixel_count p.setting.size
 owns_within p x o = ⊎_elim (λ (e : x ≡ pixel_word o.pixel). let lt = o.on_screen in omega arith)

@@ -12,7 +12,7 @@ use Rattle.fb_words.specs.declared.known.ServerMode.TheVariants.{Writing}
 use Rattle.fb_words.specs.declared.known.Client.{Client}
 use Rattle.fb_words.specs.declared.known.View.{View}
 use Rattle.fb_words.specs.Views.{total, is_client, busy, busy_mode, is_closing, alone, only, head_view, the_server, both_views, client_of, without, HasSeen}
-use Rattle.fb_words.specs.Steps.{after_give, with_step, AllSit, SitOnce}
+use Rattle.fb_words.specs.Steps.{after_give, with_step, AllSit, SitOnce, AllHere, Knows, arranged}
 use Rattle.fb_words.proofs.Places.{at_end}
 use Rattle.fb_words.proofs.Totals.{total_snoc, total_one, total_two, total_map, from_map}
 use Rattle.fb_words.proofs.Spreads.{is_itself, place_within}
@@ -76,6 +76,10 @@ joined_is_head m me u joined is = let P : Mine → Type 0 = IsHead in subst P (s
 
 pub same_seat_sits : (m me : Mine) → m ≡ me → AllSit (the_server me.0) me.0.clients → AllSit (the_server m.0) m.0.clients
 same_seat_sits m me same sit = let P : Mine → Type 0 = λ x. AllSit (the_server x.0) x.0.clients in subst P (sym same) sit
+
+pub same_seat_knows : (m me : Mine) → m ≡ me → (AllHere (the_server me.0) me.0.clients → Knows (the_server me.0) (arranged (length (the_server me.0).limits) me.0.clients))
+    → AllHere (the_server m.0) m.0.clients → Knows (the_server m.0) (arranged (length (the_server m.0).limits) m.0.clients)
+same_seat_knows m me same known = let P : Mine → Type 0 = λ x. AllHere (the_server x.0) x.0.clients → Knows (the_server x.0) (arranged (length (the_server x.0).limits) x.0.clients) in subst P (sym same) known
 
 pub given_idle : (e : JournalEntry) (ps : List Client) → total busy ps ≡ 0 → total busy (map (with_step e) ps) ≡ 0
 given_idle e ps idle = total_map busy busy (with_step e) ps (λ p. ap busy_mode (same_mode e p)) ∙ idle

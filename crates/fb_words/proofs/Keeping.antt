@@ -1,8 +1,8 @@
 -- What a client keeps for each slot, over its steps.
-use Rattle.std.proofs.Common.{◌≡◌, ◌≢◌, ℕ, ◌+◌, ◌<◌, ◌≤◌, ◌==◌, nat_lt, ⊎_elim, eq-eqb, ne_eqb, if◌then◌else◌, Bool, true, false, List, [], ◌∷◌, ◌++◌, map, sym, refl, ap, ◌∙◌, subst, arith, Option, Some, None}
+use Rattle.std.proofs.Common.{◌≡◌, ◌≢◌, ℕ, ◌+◌, ◌<◌, ◌≤◌, ◌==◌, nat_lt, ⊎_elim, inl, inr, eq-eqb, ne_eqb, if◌then◌else◌, Bool, true, false, List, [], ◌∷◌, ◌++◌, map, get_or, sym, refl, ap, ◌∙◌, subst, arith, Option, Some, None}
 use mathlib.Core.Option.{some-injective}
 use Rattle.qws_base.specs.declared.journals.JournalEntry.{JournalEntry}
-use Rattle.region_table.specs.Numbers.{row_word, IsTableWord}
+use Rattle.region_table.specs.Numbers.{row_word, pixel_word, IsTableWord}
 use Rattle.fb_words.specs.declared.known.Item.{Item}
 use Rattle.fb_words.specs.declared.known.Looked.{Looked}
 use Rattle.fb_words.specs.declared.known.KeptClip.{KeptClip}
@@ -10,10 +10,14 @@ use Rattle.fb_words.specs.declared.known.PaintCall.{PaintCall}
 use Rattle.fb_words.specs.declared.known.Mode.{Mode}
 use Rattle.fb_words.specs.declared.known.Mode.TheVariants.{Idle, Refused, Reading}
 use Rattle.fb_words.specs.declared.known.Client.{Client}
-use Rattle.fb_words.specs.Tables.{revision_of_slot}
-use Rattle.fb_words.specs.Clips.{looked_in, slot_in, spelled, row_seen, stored, if_slot, kept, with_row, KeepsClips, EachKeepsClips, IsClip, LooksTrue, Sees, KeptLaw}
+use Rattle.qws_base.specs.Sides.{Sides}
+use Rattle.qws_base.specs.Points.{pixel_count}
+use Rattle.fb_words.specs.Tables.{revision_of_slot, RectHas}
+use Rattle.fb_words.specs.Clips.{look_of, looked_in, slot_in, spelled, row_seen, stored, if_slot, kept, with_row, KeepsClips, EachKeepsClips, IsClip, LooksTrue, Sees, KeptLaw}
 use Rattle.fb_words.specs.Steps.{or_first, looked_mode, after_enter, after_retreat, after_look, item_mode, after_item, after_leave, with_step}
 use Rattle.fb_words.proofs.Rows.{none_some, same_some, look_true, spelt_from, spelt_row, kept_is}
+use Rattle.fb_words.specs.Rights.{IsSavedOver, IsGiven, Owns, OwnedLaw}
+use Rattle.fb_words.proofs.Spreads.{place_within}
 use Rattle.fb_words.proofs.Serving.{by_number}
 use Rattle.fb_words.proofs.Totals.{from_map}
 
@@ -106,3 +110,25 @@ seen_judged p v (Reading stamp (Some s) looked log) clip ok e = let f = spelt_fr
 
 pub kept_law : KeptLaw
 kept_law p v slot clip e = let r = kept_is p slot clip (IsClip p.setting.size v.table p.number) (λ c is. seen_judged p v p.mode c v.looks is) v.clips e in (r.1, r.0)
+
+-- ---- what it owns
+
+pub owned_in : (size : Sides) (t : List ℕ) (p : Client) (x : ℕ) (o : Owns p x) → p.setting.size ≡ size → LooksTrue t (looked_in p.mode) → IsClip size t p.number o.clip → IsGiven size t p.number o.clip.slot x
+owned_in size t p x o same true_in clip_ok =
+    let row = clip_ok.same (sym (look_true t (looked_in p.mode) _ _ true_in o.current).1) in
+    let rect = row.rects o.rect o.rect_word o.rect_at in record {
+      slot_in = clip_ok.slot_in;
+      owner = row.owner;
+      rect = o.rect;
+      pixel = o.pixel;
+      on_screen = subst (λ k. o.pixel < pixel_count k) same o.on_screen;
+      holds = (subst (λ n. o.rect < n) (sym row.count) (place_within o.clip.rects o.rect o.rect_word o.rect_at), subst (λ v. RectHas size v o.pixel) (sym rect) (subst (λ k. RectHas k o.rect_word o.pixel) same o.holds));
+      word = ⊎_elim (λ (e : x ≡ pixel_word o.pixel). inl e)
+          (λ (d : (place : ℕ) × (shape : ℕ) × (look_of (looked_in p.mode) 2 ≡ Some place) × (look_of (looked_in p.mode) 3 ≡ Some shape) × IsSavedOver p.setting.size place shape o.pixel x).
+          inr (subst (λ a. IsSavedOver size a (get_or t 3 0) o.pixel x) (sym (look_true t (looked_in p.mode) 2 d.0 true_in d.2).1)
+          (subst (λ b. IsSavedOver size d.0 b o.pixel x) (sym (look_true t (looked_in p.mode) 3 d.1 true_in d.3).1) (subst (λ k. IsSavedOver k d.0 d.1 o.pixel x) same d.4))))
+          o.word;
+    }
+
+pub owned_law : OwnedLaw
+owned_law p v x o = owned_in p.setting.size v.table p x o refl v.looks (kept_law p v o.clip.slot o.clip o.kept_clip).1

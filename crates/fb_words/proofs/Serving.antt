@@ -226,7 +226,7 @@ withdraws key slots id s ps closing = server_steps key slots id s ps 0 (λ n. (n
 
 tells : (key : Setting) (slots id : ℕ) (s : Server) (ps : List Client) → Allows (Holds key) slots id (head_view s ps, []) 0 (λ n. n) (told (step slots 0 0 0 none) (head_view s ps, []))
 tells key slots id s ps = server_steps key slots id s ps 0 (λ n. n) (told (step slots 0 0 0 none) (head_view s ps, []))
-    (λ words cs f sit once _. (s, subst (λ x. Fits key x record { server = s; clients = cs }) (sym (set_same words 0)) f, (refl, sits_well key words s cs ps f sit, once, (let many = f.as_many in let few = f.few in omega arith))))
+    (λ words cs f sit once _. (s, subst (λ x. Fits key x record { server = s; clients = cs }) (sym (set_same words 0)) f, (refl, sits_well key words s cs ps f sit, once, (let many = f.as_many in let few = f.few in omega arith), λ here. knows_all key words s cs ps f sit here)))
 
 -- ---- give
 

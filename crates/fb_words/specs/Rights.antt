@@ -12,7 +12,7 @@ use Rattle.fb_words.specs.declared.known.KeptClip.{KeptClip}
 use Rattle.fb_words.specs.declared.known.Client.{Client}
 use Rattle.fb_words.specs.Lines.{item_word}
 use Rattle.fb_words.specs.Tables.{owner_in, RectHas, RowHas}
-use Rattle.fb_words.specs.Clips.{look_of, stamp_in, slot_in, looked_in, kept}
+use Rattle.fb_words.specs.Clips.{look_of, stamp_in, slot_in, looked_in, kept, Sees}
 
 -- ---- cells
 
@@ -79,3 +79,7 @@ pub record Owns (p : Client) (x : ℕ) : Type 0 where
   pub holds : RectHas p.setting.size rect_word pixel
   pub word : (x ≡ pixel_word pixel)
       ⊎ ((place : ℕ) × (shape : ℕ) × (look_of (looked_in p.mode) 2 ≡ Some place) × (look_of (looked_in p.mode) 3 ≡ Some shape) × IsSavedOver p.setting.size place shape pixel x)
+
+-- what a client owns in its turn, a table that it sees gives it in the slot of the kept clip
+abbrev pub OwnedLaw : Type 0
+OwnedLaw = (p : Client) (sees : Sees p) (x : ℕ) (owns : Owns p x) → IsGiven p.setting.size sees.table p.number owns.clip.slot x

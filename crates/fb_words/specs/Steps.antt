@@ -137,10 +137,6 @@ SitOnce ps = (c : ℕ) → total (is_client c) ps ≤ 1
 abbrev pub AllHere : Server → List Client → Type 0
 AllHere s ps = (c : ℕ) → c < length s.limits → (k : ℕ) × (p : Client) × (get_elem? ps k ≡ some p) × (p.number ≡ c)
 
--- a load that changes nothing
-abbrev pub told : Step Empty → Me Empty View → ℕ → Me Empty View → Type 0
-told st me n me' = (me' ≡ me) × AllSit (the_server me.0) me.0.clients × SitOnce me.0.clients × (length (the_server me.0).limits ≤ 16)
-
 abbrev pub after_announce : Server → Server
 after_announce s = record s { mode = Closing }
 
@@ -174,6 +170,11 @@ pub record Knows (s : Server) (cs : List Client) : Type 0 where
   pub paints : (c : ℕ) (p : Client) → get_elem? cs c ≡ some p → PaintsOk s.setting s c p
   pub steps : StepsOk s.setting s
   pub picks : PicksOk s.setting s cs
+
+-- a load that changes nothing; where all admitted clients sit, all closed turns are known
+abbrev pub told : Step Empty → Me Empty View → ℕ → Me Empty View → Type 0
+told st me n me' = let s = the_server me.0 in let ps = me.0.clients in
+    (me' ≡ me) × AllSit s ps × SitOnce ps × (length s.limits ≤ 16) × (AllHere s ps → Knows s (arranged (length s.limits) ps))
 
 -- the turn would open with an empty log and the last closed table; where all admitted clients sit, it finds 2^32, and all
 -- closed turns are known

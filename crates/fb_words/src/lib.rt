@@ -15,8 +15,8 @@ pub use known::{
     Server, ServerMode, StepCall, View,
 };
 pub use laws::{
-    kept_clips_are_judged, paints_are_carried, pictures_are_shown, sessions_are_carried,
-    steps_are_carried,
+    kept_clips_are_judged, owned_words_are_given, paints_are_carried, pictures_are_shown,
+    sessions_are_carried, steps_are_carried,
 };
 pub use screen::{Screen, WordRule};
 pub use tokens::{Head, Pass, Stub};

@@ -8,7 +8,7 @@ ghost use Rattle.fb_words.specs.declared.known.Mode.TheVariants.{Idle};
 ghost use Rattle.region_table.specs.Opening.{opening_word};
 ghost use Rattle.fb_words.specs.Tables.{first_pixel, opening_words};
 ghost use Rattle.fb_words.specs.Views.{opening_server, total, is_client, books_in, without, client_of};
-ghost use Rattle.fb_words.specs.Steps.{with_limit, fresh, AllSit, SitOnce, SitsAs};
+ghost use Rattle.fb_words.specs.Steps.{with_limit, fresh, AllSit, SitOnce, AllHere, Knows, arranged, SitsAs};
 
 use crate::known::ScreenSetting;
 use crate::plays::{Admits, Number, Rises, Sits, Tells};
@@ -153,13 +153,15 @@ impl Screen {
     }
 
     /// The client's part sits with the head. One load of the gate word, which changes nothing, tells what the rule says of the
-    /// clients that sit: their step limits, their own steps among the closed turns, and that none sits twice.
+    /// clients that sit: their step limits, their own steps among the closed turns, and that none sits twice. Where all admitted
+    /// clients sit then, all closed turns are known.
     pub fn sit(&self, head: &mut Head, pass: Pass) -> Stub
         requires screens { (head.old.screen ≡ self.now) × (pass.screen ≡ self.now) }
         requires idle { pass.client.mode ≡ Idle }
         ensures head { head.new ≡ record head.old { sitting = head.old.sitting ++ pass.client ∷ [] } }
         ensures known { AllSit head.new.server head.new.sitting }
         ensures once { SitOnce head.new.sitting }
+        ensures all { AllHere head.new.server head.new.sitting → Knows head.new.server (arranged (length head.new.server.limits) head.new.sitting) }
         ensures stub { result ≡ record { client = pass.client.number; limit = pass.book_limit; entries = books_in pass.client.own } }
     {
         let Pass { book, seen, seat } = pass;

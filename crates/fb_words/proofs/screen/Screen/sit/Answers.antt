@@ -2,7 +2,7 @@ use Rattle.std.proofs.Common.{rules, ◌<◌, sym, ap, ◌∙◌, subst}
 use Rattle.fb_words.specs.Views.{busy_mode}
 use Rattle.fb_words.proofs.Sitting.{sits_seat}
 use Rattle.fb_words.proofs.Serving.{tells_seat}
-use Rattle.fb_words.proofs.Heads.{joined_is_head, same_seat_sits, joined_head, joined_within}
+use Rattle.fb_words.proofs.Heads.{joined_is_head, same_seat_sits, same_seat_knows, joined_head, joined_within}
 use Rattle.fb_words.proofs.screen.Screen.sit.Goals as goal
 
 pub join_seat-requires : goal.join_seat-requires
@@ -23,6 +23,9 @@ load-requires c = (
 
 pub returns-clause-known : goal.returns-clause-known
 returns-clause-known c = same_seat_sits _ _ c.load.ensures.2.0 c.load.ensures.2.1
+
+pub returns-clause-all : goal.returns-clause-all
+returns-clause-all c = same_seat_knows _ _ c.load.ensures.2.0 c.load.ensures.2.4
 
 pub bounds-head-inside-client : goal.bounds-head-inside-client
 bounds-head-inside-client c = subst (λ n. n < 16) (sym (c.client.ensures ∙ c.pass.invariant.1))
