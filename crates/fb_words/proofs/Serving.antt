@@ -58,6 +58,9 @@ sits_well key words s cs ps f sit k p e = let at = sit k p e in let ok = f.seats
   limit = ok.limit_is;
   seen = (f.order p.number p at).seen_within;
   own_steps = f.own_steps p.number p at;
+  order = f.order p.number p at;
+  clips = subst (λ k. ClipsOk k.size s p.number p) (sym f.setting.server) (f.clips p.number p at);
+  paints = subst (λ k. PaintsOk k s p.number p) (sym f.setting.server) (f.paints p.number p at);
 }
 
 -- where no item counts, the total is 0
@@ -201,7 +204,12 @@ settles key slots id s ps closing idle = server_steps key slots id s ps 0 (λ n.
     ))
   where
     between : (words : List ℕ) (cs : List Client) → Fits key words record { server = s; clients = cs } → IsBetweenTurns s
-    between words cs f = let idle = ap is_writing closing in record { empty = f.quiet idle; last = f.tables.last idle }
+    between words cs f = let idle = ap is_writing closing in record {
+      empty = f.quiet idle;
+      last = f.tables.last idle;
+      wide = f.tables.wide;
+      is_table = subst (λ k. IsTable k.size (length s.limits) (length s.closed) s.present) (sym f.setting.server) (f.tables.well (length s.closed) s.present (f.tables.last idle));
+    }
 
     go : (words : List ℕ) (cs : List Client) (f : Fits key words record { server = s; clients = cs }) (n : ℕ) → n ≡ get_or words 0 0 → (b : Bool) → (n == 4294967296) ≡ b
         → Fits key (set words 0 n) record { server = record s { mode = (if b then Writing else Closing); turned = (if b then s.turned else s.turned ++ n ∷ []) }; clients = cs }

@@ -29,10 +29,10 @@ use Rattle.fb_words.specs.declared.known.Client.{Client}
 use Rattle.fb_words.specs.declared.known.Closed.{Closed}
 use Rattle.fb_words.specs.declared.known.Server.{Server}
 use Rattle.fb_words.specs.declared.known.View.{View}
-use Rattle.fb_words.specs.Tables.{is_table_word, revision_of_slot, IsTable, Follows, opening_table, table_of, IsLineWord}
+use Rattle.fb_words.specs.Tables.{first_pixel, is_table_word, revision_of_slot, IsTable, Follows, opening_table, table_of, IsLineWord}
 use Rattle.fb_words.specs.Clips.{stamp_in, slot_in, log_in, looked_in, row_seen, with_row, Sees}
 use Rattle.fb_words.specs.Views.{total, is_client, steps_in, books_in, alone, only, head_view, the_server, client_of}
-use Rattle.fb_words.specs.Rule.{steps_of, OrderOk, PaintsOk, StepsOk}
+use Rattle.fb_words.specs.Rule.{steps_of, OrderOk, ClipsOk, PaintsOk, StepsOk}
 
 abbrev pub Empty : Type 0
 Empty = Unit {0}
@@ -125,6 +125,9 @@ pub record Sits (s : Server) (p : Client) : Type 0 where
   pub limit : get_elem? s.limits p.number ≡ some p.step_limit
   pub seen : p.seen ≤ length s.closed
   pub own_steps : steps_in p.own ≡ steps_of p.number 0 s.closed
+  pub order : OrderOk (length s.closed) p
+  pub clips : ClipsOk s.setting.size s p.number p
+  pub paints : PaintsOk s.setting s p.number p
 
 abbrev pub AllSit : Server → List Client → Type 0
 AllSit s ps = (k : ℕ) (p : Client) → get_elem? ps k ≡ some p → Sits s p
@@ -152,10 +155,12 @@ after_settle s n = record s { mode = (if n == 4294967296 then Writing else Closi
 abbrev pub arranged : ℕ → List Client → List Client
 arranged n ps = map (λ c. client_of c ps) (range_with_len 0 n)
 
--- where the server isn't writing, its log is empty, and the present table is the last closed one
+-- where the server isn't writing, its log is empty, and the present table is the last closed one, which is well formed
 pub record IsBetweenTurns (s : Server) : Type 0 where
   pub empty : s.log ≡ []
   pub last : get_elem? s.tables (length s.closed) ≡ some s.present
+  pub wide : length s.present ≡ first_pixel
+  pub is_table : IsTable s.setting.size (length s.limits) (length s.closed) s.present
 
 -- What is known of all closed turns where all admitted clients sit: the tables, the clients' own calls in their order, that
 -- each turn carries its entry, and that each Pick shows the last Put before it.

@@ -153,8 +153,8 @@ impl Screen {
     }
 
     /// The client's part sits with the head. One load of the gate word, which changes nothing, tells what the rule says of the
-    /// clients that sit: their step limits, their own steps among the closed turns, and that none sits twice. Where all admitted
-    /// clients sit then, all closed turns are known.
+    /// clients that sit: their step limits, their own steps among the closed turns, the order of their calls, their kept clips,
+    /// and that none sits twice. Where all admitted clients sit then, all closed turns are known.
     pub fn sit(&self, head: &mut Head, pass: Pass) -> Stub
         requires screens { (head.old.screen ≡ self.now) × (pass.screen ≡ self.now) }
         requires idle { pass.client.mode ≡ Idle }
