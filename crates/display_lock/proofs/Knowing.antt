@@ -15,4 +15,5 @@ known_before s cs k = record {
   own_steps = k.own_steps;
   paints = k.paints;
   steps = k.steps;
+  picks = k.picks;
 }

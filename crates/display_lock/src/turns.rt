@@ -10,9 +10,9 @@ ghost use Rattle.fb_words.specs.Rights.{Owns};
 ghost use Rattle.fb_words.specs.declared.known.Item.TheVariants.{Pick, Put};
 ghost use Rattle.region_table.specs.Numbers.{IsTableWord, row_word};
 ghost use Rattle.fb_words.specs.declared.known.KeptClip.{KeptClip};
-ghost use Rattle.fb_words.specs.Clips.{look_of, looked_in, kept, Sees};
+ghost use Rattle.fb_words.specs.Clips.{look_of, looked_in, slot_in, spelled, kept, KeepsClips, EachKeepsClips, Sees};
 ghost use Rattle.fb_words.specs.Views.{total, is_client, is_writing, books_in};
-ghost use Rattle.fb_words.specs.Steps.{after_look, after_item, CarriesAtEnd, CarriesAtGive, ReadTells, Knows, arranged, paint_call, after_leave, IsEntryOf, after_announce, after_read, after_write, IsNextTable, after_give, with_step, AllHere};
+ghost use Rattle.fb_words.specs.Steps.{after_look, after_item, CarriesAtEnd, CarriesAtGive, ReadTells, Knows, arranged, paint_call, after_leave, IsEntryOf, after_announce, after_read, after_write, IsNextTable, after_give, with_step, AllHere, IsBetweenTurns};
 ghost use Rattle.fb_words.specs.contracts.tokens.Pass as pass_of;
 ghost use Rattle.fb_words.specs.contracts.tokens.Head as head_of;
 ghost use Rattle.display_lock.specs.Turns.{IsTurned, IsOpen, SameTurn, client_in, turned_away, let_in, IsShutOut, SameServerTurn, IsOpenServer, shut_out, opened, withdrawn};
@@ -51,6 +51,7 @@ fn get_in(screen: &Screen, pass: &mut Pass) -> Result<u64, Busy>
     ensures pass { MatchResult result (λ stamp. pass.new ≡ let_in pass.old stamp) (λ busy. pass.new ≡ turned_away pass.old busy.found) }
     ensures seen { IfOk result (λ stamp. (pass.old.client.seen ≤ stamp) × Sees (let_in pass.old stamp).client) }
     ensures found { IfErr result (λ busy. 2 ^ 32 ≤ busy.found) }
+    ensures kept { KeepsClips pass.old.client pass.new.client }
 {
     let found = screen.enter(pass);
     if found >= CLOSED {
@@ -61,7 +62,8 @@ fn get_in(screen: &Screen, pass: &mut Pass) -> Result<u64, Busy>
 }
 
 /// A painter's turn, which has looked at the stamp. `Busy` comes exactly where this call's enter found 2^32 or more: the
-/// server has a turn open or has announced one. The enter is undone then, and the pass has the word that was found.
+/// server has a turn open or has announced one. The enter is undone then, and the pass has the word that was found. What it
+/// keeps for each slot stays either way.
 pub fn try_paint_turn<'a>(pass: &'a mut Pass, screen: &'a Screen) -> Result<PaintTurn<'a>, Busy>
     requires screen { pass.old.screen ≡ screen.now }
     requires idle { pass.old.client.mode ≡ Idle }
@@ -71,6 +73,7 @@ pub fn try_paint_turn<'a>(pass: &'a mut Pass, screen: &'a Screen) -> Result<Pain
     ensures open { IfOk result (λ turn. (turn.screen.now ≡ screen.now) × (turn.pass.now ≡ let_in pass.old turn.stamp)) }
     ensures seen { IfOk result (λ turn. (pass.old.client.seen ≤ turn.stamp) × Sees (let_in pass.old turn.stamp).client) }
     ensures found { IfErr result (λ busy. 2 ^ 32 ≤ busy.found) }
+    ensures kept { MatchResult result (λ turn. KeepsClips pass.old.client (let_in pass.old turn.stamp).client) (λ busy. KeepsClips pass.old.client (turned_away pass.old busy.found).client) }
 {
     let stamp = get_in(screen, pass)?;
     Ok(PaintTurn {
@@ -102,7 +105,10 @@ impl<'a> PaintTurn<'a> {
         self.screen
     }
 
-    /// Looks at a table word, and answers its value, the same at each look of the turn. A revision is at least the kept one.
+    /// Looks at a table word, and answers its value, the same at each look of the turn. The stamp is the turn's; a revision is at
+    /// least the kept one, and a number of rectangles at most 256. The first revision that is looked at fixes the turn's slot.
+    /// Where the looked words spell the whole row of that slot, and the client owns it, the row is the slot's kept clip from
+    /// then on; those of other slots stay.
     pub fn look(&mut self, word: u64) -> u64
         requires open { IsOpen self.old }
         requires table { IsTableWord word }
@@ -112,6 +118,10 @@ impl<'a> PaintTurn<'a> {
         ensures present { Sees (client_in self.new) }
         ensures value { (value : ℕ) → look_of (looked_in (client_in self.old).mode) word ≡ Some value → result ≡ value }
         ensures revision { (slot : ℕ) (clip : KeptClip) → slot < 33 → word ≡ row_word slot + 1 → kept (client_in self.old) slot ≡ Some clip → clip.revision ≤ result }
+        ensures stamp { word ≡ 1 → result ≡ self.old.stamp }
+        ensures count { (slot : ℕ) → slot < 33 → word ≡ row_word slot + 3 → result ≤ 256 }
+        ensures row { (slot : ℕ) (clip : KeptClip) → slot_in (client_in self.new).mode ≡ Some slot → spelled (client_in self.new).number slot (looked_in (client_in self.new).mode) ≡ Some clip → kept (client_in self.new) slot ≡ Some clip }
+        ensures kept { (slot : ℕ) → (slot_in (client_in self.new).mode ≡ Some slot → ⊥) → kept (client_in self.new) slot ≡ kept (client_in self.old) slot }
     {
         self.screen.look(self.pass, word)
     }
@@ -123,6 +133,7 @@ impl<'a> PaintTurn<'a> {
         ensures same { SameTurn self.old self.new }
         ensures open { IsOpen self.new }
         ensures pass { client_in self.new ≡ after_item (client_in self.old) (Pick word result) }
+        ensures kept { KeepsClips (client_in self.old) (client_in self.new) }
         ensures colour { IsSceneColour (client_in self.old).setting.depth result }
     {
         self.screen.pick(self.pass, word)
@@ -136,18 +147,21 @@ impl<'a> PaintTurn<'a> {
         ensures same { SameTurn self.old self.new }
         ensures open { IsOpen self.new }
         ensures pass { client_in self.new ≡ after_item (client_in self.old) (Put word value) }
+        ensures kept { KeepsClips (client_in self.old) (client_in self.new) }
     {
         self.screen.put(self.pass, word, value);
     }
 
     /// Closes the turn with its entry, which goes into the book, and with the sheet of the picture. The turn's log carries the
-    /// paint, and the reply is the paint's, whatever the table is of which the turn has looked at a part.
+    /// paint, and the reply is the paint's, whatever the table is of which the turn has looked at a part. What is kept for each
+    /// slot stays.
     pub fn end<P: Picture>(self, entry: BookEntry, picture: &P)
         requires open { IsOpen self }
         requires entry { IsEntryOf self.pass.now.client entry }
         requires room { length (books_in self.pass.now.client.own) < self.pass.now.book_limit }
         requires carries { CarriesAtEnd self.pass.now.client entry (P.sheet picture.now) }
-        ensures { self.exit.1.0.now ≡ record self.entry.pass.now { client = after_leave self.entry.pass.now.client (paint_call self.entry.pass.now.client entry (P.sheet picture.now)) } }
+        ensures pass { self.exit.1.0.now ≡ record self.entry.pass.now { client = after_leave self.entry.pass.now.client (paint_call self.entry.pass.now.client entry (P.sheet picture.now)) } }
+        ensures kept { KeepsClips self.entry.pass.now.client self.exit.1.0.now.client }
     {
         let PaintTurn {
             screen,
@@ -175,6 +189,7 @@ fn take_over(screen: &Screen, head: &mut Head) -> Result<(), Busy>
     requires not_writing { is_writing head.old.server.mode ≡ false }
     ensures head { MatchResult result (λ _. head.new ≡ opened head.old) (λ busy. head.new ≡ shut_out head.old busy.found) }
     ensures found { IfErr result (λ busy. busy.found ≡ 2 ^ 32 → ⊥) }
+    ensures between { IsBetweenTurns head.old.server }
     ensures free { IfErr result (λ busy. AllHere head.old.server head.old.sitting → ⊥) }
     ensures known { AllHere head.old.server head.old.sitting → Knows head.old.server (arranged (length head.old.server.limits) head.old.sitting) }
 {
@@ -187,8 +202,8 @@ fn take_over(screen: &Screen, head: &mut Head) -> Result<(), Busy>
 
 /// The server's turn. It announces the server where that is not done yet, and settles once. `Busy` comes exactly where the
 /// settle found a word other than 2^32: painters are in, or were refused and aren't back yet. The gate stays closed then,
-/// and the head has the word that was found. It doesn't come where all admitted clients sit;
-/// all closed turns are known then.
+/// and the head has the word that was found. It doesn't come where all admitted clients sit; all closed turns are known then.
+/// The turn opens with an empty log, and with the last closed table as its present one.
 pub fn try_server_turn<'a>(head: &'a mut Head, screen: &'a Screen) -> Result<ServerTurn<'a>, Busy>
     requires screen { head.old.screen ≡ screen.now }
     requires not_writing { is_writing head.old.server.mode ≡ false }
@@ -196,6 +211,7 @@ pub fn try_server_turn<'a>(head: &'a mut Head, screen: &'a Screen) -> Result<Ser
     ensures same_reference { IfOk result (λ turn. turn.head.ghost_name ≡ head.entry.ghost_name) }
     ensures open { IfOk result (λ turn. (turn.screen.now ≡ screen.now) × (turn.head.now ≡ opened head.old)) }
     ensures found { IfErr result (λ busy. busy.found ≡ 2 ^ 32 → ⊥) }
+    ensures between { IsBetweenTurns head.old.server }
     ensures free { IfErr result (λ busy. AllHere head.old.server head.old.sitting → ⊥) }
     ensures known { AllHere head.old.server head.old.sitting → Knows head.old.server (arranged (length head.old.server.limits) head.old.sitting) }
 {
@@ -228,14 +244,15 @@ impl<'a> ServerTurn<'a> {
     }
 
     /// Ends the turn with its entry, which has the next number. Its client sits with the head. The present table has the next
-    /// number too, and follows the last closed one; the turn's log carries the step from that one to it.
+    /// number too, and follows the last closed one; the turn's log carries the step from that one to it. Kept clips stay.
     pub fn end(self, entry: &JournalEntry)
         requires open { IsOpenServer self }
         requires next { entry.now.number ≡ length self.head.now.server.closed + 1 }
         requires sits { 1 ≤ total (is_client entry.now.client) self.head.now.sitting }
         requires table { IsNextTable self.head.now.server }
         requires carries { CarriesAtGive self.head.now.server entry.now }
-        ensures { self.exit.1.0.now ≡ record self.entry.head.now { server = after_give self.entry.head.now.server entry.now; sitting = map (with_step entry.now) self.entry.head.now.sitting } }
+        ensures head { self.exit.1.0.now ≡ record self.entry.head.now { server = after_give self.entry.head.now.server entry.now; sitting = map (with_step entry.now) self.entry.head.now.sitting } }
+        ensures kept { EachKeepsClips self.entry.head.now.sitting self.exit.1.0.now.sitting }
     {
         let ServerTurn { screen, head } = self;
         screen.give(head, entry);

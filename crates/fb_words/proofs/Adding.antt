@@ -1,41 +1,38 @@
 -- A pick or a put of an open paint turn keeps the words and the world in step.
-use Rattle.std.proofs.Common.{◌≡◌, ℕ, suc, ◌+◌, ◌<◌, ◌≤◌, ◌≢◌, ◌⊎◌, ⊎_elim, inl, inr, List, [], ◌∷◌, ◌++◌, length, get_or, set, length-set, append-nil, sym, refl, ap, ◌∙◌, subst, arith, Option, Some, None, false, true, Bool}
-use Rattle.std.proofs.lemmas.List.{get_or-set_other, get_or-set_same, set-get_or}
+use Rattle.std.proofs.Common.{◌≡◌, ℕ, suc, ◌+◌, ◌<◌, ◌≢◌, ⊎_elim, inr, List, [], ◌∷◌, ◌++◌, length, get_or, set, length-set, sym, refl, ap, ◌∙◌, subst, arith, Some, false}
+use Rattle.std.proofs.lemmas.List.{get_or-set_other, get_or-set_same}
 use mathlib.Core.Option.{some, none}
 use mathlib.Core.Logic.{dite}
 use native.Mathlib.Decide.{ℕ_discrete}
 use lib.ListN.{get_elem?}
 use Rattle.atomic_table.specs.Table.{Me, step, Allows}
-use Rattle.qws_base.specs.Sides.{Sides}
 use Rattle.qws_base.specs.Points.{pixel_count}
 use Rattle.qws_base.specs.Colours.{IsSceneColour}
 use Rattle.qws_base.specs.Scenes.{Setting}
-use Rattle.region_table.specs.Numbers.{row_word, pixel_word, IsTableWord}
+use Rattle.region_table.specs.Numbers.{pixel_word}
 use Rattle.fb_words.specs.declared.known.Item.{Item}
 use Rattle.fb_words.specs.declared.known.Item.TheVariants.{Pick, Put}
 use Rattle.fb_words.specs.declared.known.Looked.{Looked}
-use Rattle.fb_words.specs.declared.known.KeptClip.{KeptClip}
 use Rattle.fb_words.specs.declared.known.Mode.{Mode}
 use Rattle.fb_words.specs.declared.known.Mode.TheVariants.{Idle, Refused, Reading}
 use Rattle.fb_words.specs.declared.known.Client.{Client}
-use Rattle.fb_words.specs.declared.known.Server.{Server}
 use Rattle.fb_words.specs.declared.known.View.{View}
-use Rattle.fb_words.specs.Lines.{item_word, on, written, Shows}
-use Rattle.fb_words.specs.Tables.{IsLineWord, RectHas}
-use Rattle.fb_words.specs.Segments.{client_items, segment, line, first_value, LineOk}
+use Rattle.fb_words.specs.Lines.{item_word, written, Shows}
+use Rattle.fb_words.specs.Segments.{line, first_value, LineOk}
 use Rattle.fb_words.specs.Clips.{look_of, stamp_in, slot_in, looked_in, log_in, IsClip}
-use Rattle.fb_words.specs.Rights.{IsSavedOver, IsWordOf, IsGiven, LogIn, Owns}
-use Rattle.fb_words.specs.Views.{total, busy, reading, busy_mode, reading_mode, shut, is_writing, steps_in, alone, only}
-use Rattle.fb_words.specs.Rule.{World, SeatOk, OrderOk, steps_of, TablesOk, ClipsOk, LooksOk, OpenRights, PaintsOk, LinesOk, Fits, Holds}
+use Rattle.fb_words.specs.Rights.{IsSavedOver, IsGiven, Owns}
+use Rattle.fb_words.specs.Views.{busy, reading, busy_mode, reading_mode, shut, is_writing, steps_in, alone}
+use Rattle.fb_words.specs.Rule.{World, SeatOk, OrderOk, steps_of, ClipsOk, LooksOk, OpenRights, PaintsOk, Fits, Holds}
 use Rattle.fb_words.specs.Steps.{item_mode, after_item, picked, put}
 use Rattle.fb_words.proofs.Places.{each_of, each_set}
-use Rattle.fb_words.proofs.Totals.{total_set, total_one}
+use Rattle.fb_words.proofs.Totals.{total_set}
 use Rattle.fb_words.proofs.Joining.{written-append, shows-append}
-use Rattle.fb_words.proofs.Rows.{none_some, not_both, line_far, look_true, seen_row, kept_is}
+use Rattle.fb_words.proofs.Rows.{none_some, line_far, seen_row, kept_is}
 use Rattle.fb_words.proofs.Cells.{word_far, word_within}
-use Rattle.fb_words.proofs.Spreads.{with_client, client_steps, place_within}
+use Rattle.fb_words.proofs.Spreads.{with_client, client_steps}
 use Rattle.fb_words.proofs.Gate.{looks_kept, tables_kept, part_of, IsAlone}
 use Rattle.fb_words.proofs.Painting.{before, grown, others_away, late_none, line_gains, line_stays}
+use Rattle.fb_words.proofs.Keeping.{owned_in}
 use Rattle.fb_words.proofs.Looking.{no_turn, present_table, looks_present, looks_in, stamped_reads, stamp_now}
 
 abbrev Mine : Type 0
@@ -44,25 +41,12 @@ Mine = Me (Unit {0}) View
 -- what a client owns in its turn, the present table gives it
 pub owned : (key : Setting) (words : List ℕ) (w : World) (p : Client) (x : ℕ) → Fits key words w → get_elem? w.clients p.number ≡ some p → is_writing w.server.mode ≡ false → (o : Owns p x) → IsGiven key.size w.server.present p.number o.clip.slot x
 owned key words w p x f at idle o =
-    let s = w.server in let t = s.present in let setting = (f.seats p.number p at).setting_is in let last = f.tables.last idle in
-    let looks = looks_present key.size words s p.mode f.tables (f.looks p.number p at) in let true_in = looks_in t (length s.closed) p.mode looks in
+    let s = w.server in let t = s.present in let last = f.tables.last idle in
+    let looks = looks_present key.size words s p.mode f.tables (f.looks p.number p at) in
     let clip_ok : IsClip key.size t p.number o.clip = (kept_is p o.clip.slot o.clip (IsClip key.size t p.number)
     (λ c e. (seen_row key.size (length s.limits) (length s.closed) p.number t p.mode c (present_table key words w f idle) looks e).0)
     (λ k c e. f.clips p.number p at k c t e last) o.kept_clip).0 in
-    let row = clip_ok.same (sym (look_true t (looked_in p.mode) _ _ true_in o.current).1) in
-    let rect = row.rects o.rect o.rect_word o.rect_at in record {
-      slot_in = clip_ok.slot_in;
-      owner = row.owner;
-      rect = o.rect;
-      pixel = o.pixel;
-      on_screen = subst (λ k. o.pixel < pixel_count k.size) setting o.on_screen;
-      holds = (subst (λ n. o.rect < n) (sym row.count) (place_within o.clip.rects o.rect o.rect_word o.rect_at), subst (λ v. RectHas key.size v o.pixel) (sym rect) (subst (λ k. RectHas k.size o.rect_word o.pixel) setting o.holds));
-      word = ⊎_elim (λ (e : x ≡ pixel_word o.pixel). inl e)
-          (λ (d : (place : ℕ) × (shape : ℕ) × (look_of (looked_in p.mode) 2 ≡ Some place) × (look_of (looked_in p.mode) 3 ≡ Some shape) × IsSavedOver p.setting.size place shape o.pixel x).
-          inr (subst (λ a. IsSavedOver key.size a (get_or t 3 0) o.pixel x) (sym (look_true t (looked_in p.mode) 2 d.0 true_in d.2).1)
-          (subst (λ b. IsSavedOver key.size d.0 b o.pixel x) (sym (look_true t (looked_in p.mode) 3 d.1 true_in d.3).1) (subst (λ k. IsSavedOver k.size d.0 d.1 o.pixel x) setting d.4))))
-          o.word;
-    }
+    owned_in key.size t p x o (ap (λ k. k.size) (f.seats p.number p at).setting_is) (looks_in t (length s.closed) p.mode looks) clip_ok
 
 pub owns_within : (p : Client) (x : ℕ) → Owns p x → x < 10632 + pixel_count p.setting.size
 owns_within p x o = ⊎_elim (λ (e : x ≡ pixel_word o.pixel). let lt = o.on_screen in omega arith)
@@ -79,7 +63,13 @@ adds_item key words w p S looked log i x v f at idle is mine same value shows co
     let far = word_far key.size (get_or s.present 2 0) (get_or s.present 3 0) mine.pixel x mine.word in let lo = line_far x far in
     let busy_same : busy q ≡ busy p = ap busy_mode (sym is) in let reads_same : reading q ≡ reading p = ap reading_mode (sym is) in
     let looks = subst (LooksOk words E) is (f.looks p.number p at) in let rights = subst (OpenRights key.size s.present p.number) is (f.rights p.number p at) in
-    let table = present_table key words w f idle in record {
+    let table = present_table key words w f idle in
+    let within : x < length words = (let lt = word_within key.size (get_or s.present 2 0) (get_or s.present 3 0) mine.pixel x mine.on_screen mine.word in let long = f.setting.long in omega arith) in
+    let here = f.lines x far within in
+    let gained = line_gains x s cs p S looked log i (f.quiet idle) is same at
+    (λ c r e apart. others_away key (length s.limits) E s words p.number c S x r (λ eq2. apart (sym eq2)) table (f.tables.last idle) mine (f.looks c r e) (f.rights c r e) (f.paints c r e))
+    (λ c r e. late_none words E x (suc E) r (omega arith) (f.order c r e) (f.looks c r e)) in
+    let stays : (y : ℕ) → y ≢ x → line y s (set cs p.number q) ≡ line y s cs = (λ y ne. line_stays y s cs p S looked log i is (λ eq. ne (sym eq ∙ same)) at) in record {
       setting = record { long = length-set words x v ∙ f.setting.long; screen = f.setting.screen; colour = f.setting.colour; server = f.setting.server };
       gate = let sum = total_set busy cs p.number p q at in get_or-set_other words x 0 v 0 (λ eq. absurd (omega arith)) ∙ f.gate ∙ ap (λ n. shut s.mode + n) (omega arith);
       apart = λ writing. let none_reads = f.apart writing in let sum = total_set reading cs p.number p q at in omega arith;
@@ -100,21 +90,18 @@ adds_item key words w p S looked log i x v f at idle is mine same value shows co
       quiet = f.quiet;
       lines = λ y far_y hi. dite (ℕ_discrete y x)
           (λ (eq : y ≡ x). subst (λ z. LineOk key z (get_or (set words x v) z 0) (line z s (set cs p.number q))) (sym eq) (
-          let within : x < length words = (let z = hi in let l = length-set words x v in omega arith) in let old = f.lines x far within in
-          let gained = line_gains x s cs p S looked log i (f.quiet idle) is same at
-          (λ c r e apart. others_away key (length s.limits) E s words p.number c S x r (λ eq2. apart (sym eq2)) table (f.tables.last idle) mine (f.looks c r e) (f.rights c r e) (f.paints c r e))
-          (λ c r e. late_none words E x (suc E) r (omega arith) (f.order c r e) (f.looks c r e)) in
           let first = first_value key x in record {
-            is_written = get_or-set_same words x v 0 within ∙ sym value ∙ ap (λ z. written z (i ∷ [])) old.is_written ∙ sym (written-append first (line x s cs) (i ∷ [])) ∙ ap (written first) (sym gained);
-            shows = subst (Shows first) (sym gained) (shows-append first (line x s cs) (i ∷ []) old.shows (subst (λ z. Shows z (i ∷ [])) old.is_written shows));
+            is_written = get_or-set_same words x v 0 within ∙ sym value ∙ ap (λ z. written z (i ∷ [])) here.is_written ∙ sym (written-append first (line x s cs) (i ∷ [])) ∙ ap (written first) (sym gained);
             colour = rw (get_or-set_same words x v 0 within) colour;
           }))
-          (λ (ne : y ≢ x). let old = f.lines y far_y (let l = length-set words x v in omega arith) in
-          let stays = line_stays y s cs p S looked log i is (λ eq. ne (sym eq ∙ same)) at in record {
-            is_written = get_or-set_other words x y v 0 ne ∙ old.is_written ∙ ap (written (first_value key y)) (sym stays);
-            shows = subst (Shows (first_value key y)) (sym stays) old.shows;
+          (λ (ne : y ≢ x). let old = f.lines y far_y (let l = length-set words x v in omega arith) in record {
+            is_written = get_or-set_other words x y v 0 ne ∙ old.is_written ∙ ap (written (first_value key y)) (sym (stays y ne));
             colour = rw (get_or-set_other words x y v 0 ne) old.colour;
           });
+      picks = λ y. dite (ℕ_discrete y x)
+          (λ (eq : y ≡ x). let first = first_value key x in subst (λ z. Shows (first_value key z) (line z s (set cs p.number q))) (sym eq)
+          (subst (Shows first) (sym gained) (shows-append first (line x s cs) (i ∷ []) (f.picks x) (subst (λ z. Shows z (i ∷ [])) here.is_written shows))))
+          (λ (ne : y ≢ x). subst (Shows (first_value key y)) (sym (stays y ne)) (f.picks y));
     }
 
 -- a turn that has its stamp and its slot

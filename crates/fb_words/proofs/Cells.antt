@@ -1,14 +1,12 @@
 -- A word is of one pixel at most, and a table gives it to one client at most.
-use Rattle.std.proofs.Common.{◌≡◌, ℕ, ◌+◌, ◌*◌, ◌/◌, ◌%◌, ◌^◌, ◌<◌, ◌≤◌, ◌==◌, ◌⊎◌, ⊎_elim, inl, inr, if◌then◌else◌, Bool, true, false, List, [], get_or, sym, refl, ap, ◌∙◌, subst, arith, Option, Some, None, ℤ, pos, ◌+ℤ◌, ◌-ℤ◌, nat_abs, int_le, int_lt, ◌&&◌}
+use Rattle.std.proofs.Common.{◌≡◌, ℕ, ◌+◌, ◌*◌, ◌/◌, ◌%◌, ◌^◌, ◌<◌, ◌==◌, ⊎_elim, inl, inr, if◌then◌else◌, Bool, true, false, List, get_or, sym, refl, ap, ◌∙◌, subst, arith, Some, None, pos, ◌+ℤ◌, ◌-ℤ◌, nat_abs, int_le, int_lt, ◌&&◌}
 use Rattle.std.proofs.lemmas.Int.{ints}
 use Rattle.std.proofs.lemmas.Nat.{div-add-mod'}
-use mathlib.Core.Option.{some}
-use lib.ListN.{get_elem?}
 use Rattle.qws_base.specs.Sides.{Sides}
-use Rattle.qws_base.specs.Points.{spans, point_of, pixel_count}
-use Rattle.region_table.specs.Numbers.{row_word, pixel_word, saved_word}
+use Rattle.qws_base.specs.Points.{spans, pixel_count}
+use Rattle.region_table.specs.Numbers.{pixel_word}
 use Rattle.fb_words.specs.Tables.{IsLineWord, owner_in, RowHas, IsTable}
-use Rattle.fb_words.specs.Rights.{cursor_at, cell_over, IsSavedOver, IsWordOf, IsGiven}
+use Rattle.fb_words.specs.Rights.{cell_over, IsSavedOver, IsWordOf, IsGiven}
 use Rattle.fb_words.proofs.Rows.{none_some, same_some}
 
 both : (a b : Bool) → (a && b) ≡ true → (a ≡ true) × (b ≡ true)

@@ -1,8 +1,8 @@
 -- A step of a client that changes no word but the gate keeps the words and the world in step.
 use Rattle.fb_words.specs.Tables.{IsLineWord}
 use Rattle.fb_words.proofs.Joining.{joined_set_same, upto_same}
-use Rattle.fb_words.specs.Segments.{joined, call_items, open_items, client_items, server_items, segment, line, LineOk}
-use Rattle.fb_words.specs.Lines.{on}
+use Rattle.fb_words.specs.Segments.{joined, call_items, open_items, client_items, server_items, segment, line, first_value, LineOk}
+use Rattle.fb_words.specs.Lines.{on, Shows}
 use Rattle.std.proofs.Common.{◌≡◌, ℕ, ◌+◌, ◌-◌, ◌%◌, ◌^◌, ◌<◌, ◌≤◌, zero-le, nat_lt, if◌then◌else◌, Bool, true, false, List, [], ◌∷◌, ◌++◌, length, get_or, set, length-set, sym, refl, ap, ◌∙◌, subst, arith, None, suc}
 use Rattle.std.proofs.lemmas.List.{get_or-set_other, get_or-set_same}
 use Rattle.std.proofs.lemmas.Bool.{false≢true}
@@ -111,6 +111,8 @@ same_calls key words ws w p q f at number setting limit own seen clips looks rig
 pub fits_client : (key : Setting) (words ws : List ℕ) (w : World) (p q : Client) → Fits key words w → get_elem? w.clients p.number ≡ some p → SameWords words ws
     → get_or ws 0 0 + busy p ≡ get_or words 0 0 + busy q → (is_writing w.server.mode ≡ true → reading q ≤ reading p) → Still key ws w.server p q → Fits key ws (with_client w q)
 fits_client key words ws w p q f at same gate apart own = let s = w.server in let cs = w.clients in
+    let stays : (x : ℕ) → line x s (set cs p.number q) ≡ line x s cs = (λ x. upto_same (segment x s (set cs p.number q)) (segment x s cs) (suc (length s.closed))
+    (λ e le. ap (λ z. on x (server_items s e) ++ z) (joined_set_same (λ r. on x (client_items e r)) cs p.number p q at (ap (on x) (own.items e))))) in
     let P : ℕ → Type 0 = λ n. Fits key ws record w { clients = set cs n q } in subst P (sym own.number) record {
       setting = record { long = same.long ∙ f.setting.long; screen = f.setting.screen; colour = f.setting.colour; server = f.setting.server };
       gate = let sum = total_set busy cs p.number p q at in let is = f.gate in omega arith;
@@ -130,9 +132,8 @@ fits_client key words ws w p q f at same gate apart own = let s = w.server in le
       steps = f.steps;
       quiet = f.quiet;
       lines = λ x far lt. let old = f.lines x far (rw (sym same.long) lt) in let lo = line_far x far in
-          let stays : line x s (set cs p.number q) ≡ line x s cs = upto_same (segment x s (set cs p.number q)) (segment x s cs) (suc (length s.closed))
-          (λ e le. ap (λ z. on x (server_items s e) ++ z) (joined_set_same (λ r. on x (client_items e r)) cs p.number p q at (ap (on x) (own.items e)))) in
-          subst (λ z. LineOk key x z (line x s (set cs p.number q))) (sym (same.same x (omega arith))) (subst (LineOk key x (get_or words x 0)) (sym stays) old);
+          subst (λ z. LineOk key x z (line x s (set cs p.number q))) (sym (same.same x (omega arith))) (subst (LineOk key x (get_or words x 0)) (sym (stays x)) old);
+      picks = λ x. subst (Shows (first_value key x)) (sym (stays x)) (f.picks x);
     }
 
 few_busy : (l : List Client) → total busy l ≤ length l

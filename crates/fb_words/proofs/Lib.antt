@@ -8,6 +8,8 @@ pub mod Painting
 pub mod Sitting
 pub mod Gate
 pub mod Serving
+pub mod Keeping
+pub mod Heads
 pub mod Looking
 pub mod Adding
 pub mod Opening

@@ -3,10 +3,17 @@ use Rattle.fb_words.proofs.Painting.{look_rights, look_items, rights_log, open_a
 use Rattle.fb_words.proofs.Joining.{joined-append}
 use Rattle.fb_words.specs.Segments.{joined, call_items, client_items}
 use Rattle.fb_words.specs.Rights.{LogIn}
-use Rattle.fb_words.specs.Carries.{CarriesPaintUnder, RepliesUnder}
+use Rattle.fb_words.specs.Carries.{is_painted, CarriesPaintUnder, RepliesUnder}
+use Rattle.qws_base.specs.Sheets.{Sheet}
+use Rattle.qws_base.specs.Scenes.{inked, paint_reply}
+use Rattle.qws_base.specs.declared.replies.PaintReply.{PaintReply}
+use Rattle.qws_base.specs.declared.replies.PaintReply.TheVariants.{Painted, Gone}
+use Rattle.region_table.specs.Layouts.{is_client, layout_of_table}
+use Rattle.region_table.specs.Tables.{row_of, owner_from}
+use Rattle.region_table.proofs.Reading.{row_of_from}
 use Rattle.fb_words.specs.declared.known.Item.{Item}
 use Rattle.qws_base.specs.Books.{BookView}
-use Rattle.std.proofs.Common.{◌≡◌, ℕ, suc, ◌+◌, ◌-◌, ◌%◌, ◌^◌, ◌<◌, ◌≤◌, ◌==◌, nat_lt, ◌/◌, append-nil, zero-le, if◌then◌else◌, Bool, true, false, List, [], ◌∷◌, ◌++◌, length, get_or, set, length-append, sym, refl, ap, ◌∙◌, subst, arith, Option, Some, None, zero}
+use Rattle.std.proofs.Common.{◌≡◌, ℕ, suc, ◌+◌, ◌-◌, ◌%◌, ◌^◌, ◌<◌, ◌≤◌, ◌==◌, nat_lt, ◌/◌, append-nil, zero-le, if◌then◌else◌, Bool, true, false, List, [], ◌∷◌, ◌++◌, length, get_or, set, slice_index, eq-eqb, ne_eqb, sym, refl, ap, ◌∙◌, subst, arith, Option, Some, None, zero}
 use Rattle.std.proofs.lemmas.List.{set-get_or}
 use Rattle.std.proofs.lemmas.Bool.{false≢true}
 use Rattle.std.proofs.lemmas.Bool.Decides.{nat_tests}
@@ -21,23 +28,22 @@ use Rattle.region_table.specs.Numbers.{row_word, IsTableWord}
 use Rattle.fb_words.specs.declared.known.Looked.{Looked}
 use Rattle.fb_words.specs.declared.known.KeptClip.{KeptClip}
 use Rattle.fb_words.specs.declared.known.PaintCall.{PaintCall}
-use Rattle.fb_words.specs.declared.known.Call.{Call}
-use Rattle.fb_words.specs.declared.known.Call.TheVariants.{Step, Paint}
+use Rattle.fb_words.specs.declared.known.Call.TheVariants.{Paint}
 use Rattle.fb_words.specs.declared.known.Mode.{Mode}
 use Rattle.fb_words.specs.declared.known.Mode.TheVariants.{Idle, Refused, Reading}
 use Rattle.fb_words.specs.declared.known.Client.{Client}
 use Rattle.fb_words.specs.declared.known.Server.{Server}
 use Rattle.fb_words.specs.declared.known.View.{View}
-use Rattle.fb_words.specs.Tables.{revision_of_slot, revision_in, IsTable, table_of}
+use Rattle.fb_words.specs.Tables.{revision_of_slot, revision_in, count_in, IsTable, table_of}
 use Rattle.fb_words.specs.Clips.{look_of, looked_in, row_seen, with_row, kept, IsClip, LooksTrue, Sees, stamp_in, slot_in, log_in}
-use Rattle.fb_words.specs.Views.{total, busy, reading, busy_mode, reading_mode, is_writing, steps_in, books_in, book_entry, alone, only}
-use Rattle.fb_words.specs.Rule.{World, OrderOk, MayFollow, mark, TablesOk, ClipsOk, IsStamp, IsSlot, LooksOk, Fits, Holds, PaintOk, CallOk}
+use Rattle.fb_words.specs.Views.{total, busy, reading, busy_mode, reading_mode, is_writing, steps_in, books_in, book_entry, alone}
+use Rattle.fb_words.specs.Rule.{World, TablesOk, IsStamp, IsSlot, LooksOk, Fits, Holds, PaintOk, CallOk}
 use Rattle.fb_words.specs.Steps.{or_first, looked_mode, after_look, looked_at, after_leave, left}
 use Rattle.fb_words.proofs.Places.{each_of}
 use Rattle.fb_words.proofs.Totals.{total_one}
-use Rattle.fb_words.proofs.Rows.{look_true, spelt_from, seen_row, kept_is, same_some, none_some, table_positive, table_below}
-use Rattle.fb_words.proofs.Spreads.{with_client, client_steps}
-use Rattle.fb_words.proofs.Gate.{SameWords, gate_set, gate_now, Still, same_calls, fits_client, part_of, IsAlone}
+use Rattle.fb_words.proofs.Rows.{look_true, spelt_from, seen_row, kept_is, same_some, none_some, table_below}
+use Rattle.fb_words.proofs.Spreads.{client_steps}
+use Rattle.fb_words.proofs.Gate.{SameWords, gate_set, gate_now, same_calls, fits_client, part_of, IsAlone}
 use Rattle.fb_words.proofs.Serving.{order_more, steps_more, books_more}
 
 abbrev Mine : Type 0
@@ -97,6 +103,12 @@ looked_ok words closed i (Reading st slot looked log) t stamp ok = (
   slot_first slot (revision_of_slot i) ok.2 (slot_below i (table_below i t)),
 )
 
+turn_stamp : (words : List ℕ) (closed i n : ℕ) (m : Mode) → reading_mode m ≡ 1 → LooksOk words closed m → i ≡ 1 → n ≡ closed → stamp_in (looked_mode i n m) ≡ Some n
+turn_stamp words closed i n Idle reads ok one now = absurd (omega arith)
+turn_stamp words closed i n Refused reads ok one now = absurd (omega arith)
+turn_stamp words closed i n (Reading None slot looked log) reads ok one now = ap (λ b. if b then Some n else None) (eq-eqb i 1 one)
+turn_stamp words closed i n (Reading (Some e) slot looked log) reads ok one now = ap (λ x. Some x) (ok.1 ∙ sym now)
+
 same_busy : (m : Mode) (i n : ℕ) → (busy_mode (looked_mode i n m) ≡ busy_mode m) × (reading_mode (looked_mode i n m) ≡ reading_mode m)
 same_busy Idle i n = (refl, refl)
 same_busy Refused i n = (refl, refl)
@@ -127,6 +139,7 @@ looks key slots id me i is reads t = let p = part_of me in let Q : Mine → Type
           seen = omega arith;
           clips = λ k clip e. subst (λ x. IsClip x.size s.present p.number clip) (sym seat.setting_is) (f.clips p.number p at k clip s.present e (f.tables.last idle));
         },
+        (λ one. turn_stamp words (length s.closed) i n p.mode reads ok one (stamp one)),
       ),
     )))
 
@@ -163,6 +176,9 @@ seen_revision t number Idle clip ok e = none_some clip e
 seen_revision t number Refused clip ok e = none_some clip e
 seen_revision t number (Reading stamp None looked log) clip ok e = none_some clip e
 seen_revision t number (Reading stamp (Some s) looked log) clip ok e = (look_true t looked _ _ ok (spelt_from number s looked clip e).1.revision).1
+
+pub count_seen : (p : Client) (i n : ℕ) → reading p ≡ 1 → Sees (after_look p i n) → (s : ℕ) → s < 33 → i ≡ row_word s + 3 → n ≤ 256
+count_seen p i n reads v s low at = let now : count_in v.table s ≡ n = ap (λ x. get_or v.table x 0) (sym at) ∙ value_seen p i n reads v in subst (λ x. x ≤ 256) now (v.is_table.few s low)
 
 pub revision_seen : (p : Client) (i n : ℕ) → reading p ≡ 1 → Sees (after_look p i n) → (s : ℕ) (clip : KeptClip) → s < 33 → i ≡ row_word s + 1 → kept p s ≡ Some clip → clip.revision ≤ n
 revision_seen p i n reads v s clip _ at e =
@@ -207,6 +223,19 @@ abbrev pub Leaving : Client → PaintCall → Type 0
 Leaving p t = (stamp_in p.mode ≡ Some t.stamp) × ((k : ℕ) (i : Item) → get_elem? (log_in p.mode) k ≡ some i → slot_in p.mode ≡ Some t.slot) × (t.log ≡ log_in p.mode)
     × ((v : Sees p) → CarriesPaintUnder p.setting (table_of v.table) t.slot t.sheet t.reply (log_in p.mode) × RepliesUnder p.setting (table_of v.table) p.number t.slot t.sheet t.reply)
 
+-- a gone turn has read and written nothing: its slot isn't the client's, whose words alone it may read and write
+nothing_done : (size : Sides) (t : List ℕ) (c s : ℕ) (sheet : Sheet) (reply : PaintReply) (log : List Item) → LogIn size t c s log → reply ≡ paint_reply size (layout_of_table size (table_of t)) c s sheet → reply ≡ Gone → log ≡ []
+nothing_done size t c s sheet reply [] rights answer gone = refl
+nothing_done size t c s sheet reply (i ∷ log) rights answer gone = let g = rights 0 i refl in
+    let mine : is_client c (row_of (table_of t) s).owner ≡ true = ap (λ r. is_client c r.owner) (row_of_from (slice_index t) s g.slot_in) ∙ ap (λ n. is_client c (owner_from n)) g.owner ∙ own c in
+    absurd (painted_apart (length (inked size (layout_of_table size (table_of t)) s sheet)) (sym (ap (λ b. if b then Painted (length (inked size (layout_of_table size (table_of t)) s sheet)) else Gone) mine) ∙ sym answer ∙ gone))
+  where
+    own : (c : ℕ) → is_client c (owner_from (c + 1)) ≡ true
+    own c = ap (λ b. is_client c (if b then None else Some (c + 1 - 1))) (ne_eqb (c + 1) 0 (λ e. absurd (omega arith))) ∙ eq-eqb (c + 1 - 1) c (omega arith)
+
+    painted_apart : (n : ℕ) → Painted n ≡ Gone → ⊥
+    painted_apart n e = false≢true (sym (ap is_painted e))
+
 -- the turn that is closed
 closed_paint : (key : Setting) (words : List ℕ) (w : World) (p : Client) (t : PaintCall) → Fits key words w → get_elem? w.clients p.number ≡ some p → is_writing w.server.mode ≡ false → Leaving p t
     → (u : List ℕ) → get_elem? w.server.tables t.stamp ≡ some u → PaintOk key u p.number t
@@ -227,11 +256,13 @@ closed_paint key words w p t f at idle asks u at_u =
     let carries = asks.3 v in
     let P : Setting → Type 0 = λ x. CarriesPaintUnder x (table_of s.present) t.slot t.sheet t.reply (log_in p.mode) × RepliesUnder x (table_of s.present) p.number t.slot t.sheet t.reply in
     let here = subst P seat.setting_is carries in
+    let rights : LogIn key.size s.present p.number t.slot (log_in p.mode) = (λ k i e. rights_log key.size s.present p.number t.slot t.stamp p.mode (f.rights p.number p at) asks.0 (asks.1 k i e) k i e) in
     subst (λ x. PaintOk key x p.number t) is record {
       rights = subst (λ l. LogIn key.size s.present p.number t.slot l) (sym asks.2)
-          (λ k i e. rights_log key.size s.present p.number t.slot t.stamp p.mode (f.rights p.number p at) asks.0 (asks.1 k i e) k i e);
+          rights;
       carried = subst (λ l. CarriesPaintUnder key (table_of s.present) t.slot t.sheet t.reply l) (sym asks.2) here.0;
       answered = here.1;
+      gone = λ gone. asks.2 ∙ nothing_done key.size s.present p.number t.slot t.sheet t.reply (log_in p.mode) rights here.1 gone;
     }
 
 left_items : (p : Client) (t : PaintCall) (e : ℕ) → stamp_in p.mode ≡ Some t.stamp → t.log ≡ log_in p.mode → client_items e (after_leave p t) ≡ client_items e p
@@ -270,6 +301,6 @@ pub left_book : (p : Client) (t : PaintCall) (books : List BookEntry) (e : BookE
 left_book p t books e so_far is = ap (λ l. l ++ e ∷ []) so_far ∙ ap (λ x. books_in p.own ++ x ∷ []) is ∙ sym (books_more p.own (Paint t))
 
 pub left_pass : (m me : Mine) (t : PaintCall) (book now : BookView) (e : BookEntry) → m ≡ (alone (after_leave (part_of me) t), []) → (book.client ≡ (part_of me).number) × (book.entries ≡ books_in (part_of me).own)
-    → now ≡ record book { entries = book.entries ++ e ∷ [] } → e ≡ book_entry t → IsAlone m × (now.client ≡ (part_of m).number) × (now.entries ≡ books_in (part_of m).own)
-left_pass m me t book now e is kept pushed entry = let P : Mine → BookView → Type 0 = λ x b. IsAlone x × (b.client ≡ (part_of x).number) × (b.entries ≡ books_in (part_of x).own) in
-    subst (λ b. P m b) (sym pushed) (subst (λ x. P x record book { entries = book.entries ++ e ∷ [] }) (sym is) (refl, kept.0, left_book (part_of me) t book.entries e kept.1 entry))
+    → now ≡ record book { entries = book.entries ++ e ∷ [] } → e ≡ book_entry t → IsAlone m × (now.client ≡ (part_of m).number) × (now.entries ≡ books_in (part_of m).own) × (e.stamp ≡ (part_of m).seen)
+left_pass m me t book now e is kept pushed entry = let P : Mine → BookView → Type 0 = λ x b. IsAlone x × (b.client ≡ (part_of x).number) × (b.entries ≡ books_in (part_of x).own) × (e.stamp ≡ (part_of x).seen) in
+    subst (λ b. P m b) (sym pushed) (subst (λ x. P x record book { entries = book.entries ++ e ∷ [] }) (sym is) (refl, kept.0, left_book (part_of me) t book.entries e kept.1 entry, ap (λ b. b.stamp) entry))

@@ -146,7 +146,8 @@ opens_at n key is positive screen colour = record {
     paints = λ c p e. absurd (some-ne-none p (sym e));
     steps = λ e turn t u at_turn. absurd (some-ne-none turn (sym at_turn));
     quiet = λ _. refl;
-    lines = λ x far lt. let v = first_line n key x is far (subst (λ k. x < k) (long_words n key) lt) in record { is_written = v; shows = tt; colour = subst (IsSceneColour key.depth) (sym v) (first_colour key x colour) };
+    lines = λ x far lt. let v = first_line n key x is far (subst (λ k. x < k) (long_words n key) lt) in record { is_written = v; colour = subst (IsSceneColour key.depth) (sym v) (first_colour key x colour) };
+    picks = λ x. tt;
   };
 }
 

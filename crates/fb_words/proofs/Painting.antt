@@ -1,7 +1,7 @@
 -- Lines, where an open paint turn has one item more.
-use Rattle.std.proofs.Common.{◌≡◌, ℕ, zero, suc, ◌+◌, ◌<◌, ◌≤◌, ◌==◌, eq-eqb, ne_eqb, ◌≢◌, if◌then◌else◌, Bool, true, false, List, [], ◌∷◌, ◌++◌, append_assoc, append-nil, map, length, get_or, set, sym, refl, ap, ◌∙◌, subst, arith, Option, Some, None}
+use Rattle.std.proofs.Common.{◌≡◌, ℕ, suc, ◌<◌, ◌≤◌, ◌==◌, eq-eqb, ne_eqb, ◌≢◌, if◌then◌else◌, Bool, true, false, List, [], ◌∷◌, ◌++◌, append_assoc, append-nil, map, length, set, sym, refl, ap, ◌∙◌, subst, arith, Option, Some, None}
 use Rattle.std.proofs.lemmas.List.{length-map}
-use mathlib.Core.Option.{some, some-injective, some-ne-none}
+use mathlib.Core.Option.{some, some-ne-none}
 use mathlib.Core.Logic.{dite}
 use native.Mathlib.Decide.{ℕ_discrete}
 use lib.ListN.{get_elem?}
@@ -9,7 +9,6 @@ use Rattle.qws_base.specs.Sides.{Sides}
 use Rattle.qws_base.specs.Scenes.{Setting}
 use Rattle.fb_words.specs.declared.known.Item.{Item}
 use Rattle.fb_words.specs.declared.known.Looked.{Looked}
-use Rattle.fb_words.specs.declared.known.PaintCall.{PaintCall}
 use Rattle.fb_words.specs.declared.known.Call.{Call}
 use Rattle.fb_words.specs.declared.known.Call.TheVariants.{Step, Paint}
 use Rattle.fb_words.specs.declared.known.Mode.{Mode}
@@ -20,9 +19,9 @@ use Rattle.fb_words.specs.Lines.{item_word, on}
 use Rattle.fb_words.specs.Tables.{revision_of_slot, IsTable}
 use Rattle.fb_words.specs.Segments.{joined, upto, call_items, open_items, client_items, nth_log, turn_log, server_items, segment, line}
 use Rattle.fb_words.specs.Rights.{IsGiven, LogIn}
-use Rattle.fb_words.specs.Clips.{stamp_in, slot_in, looked_in, log_in}
-use Rattle.fb_words.specs.Rule.{mark, OrderOk, IsStamp, LooksOk, OpenRights, PaintOk, CallOk, PaintsOk}
-use Rattle.fb_words.specs.Steps.{or_first, looked_mode, item_mode, after_item}
+use Rattle.fb_words.specs.Clips.{stamp_in, slot_in, log_in}
+use Rattle.fb_words.specs.Rule.{mark, OrderOk, LooksOk, OpenRights, CallOk, PaintsOk}
+use Rattle.fb_words.specs.Steps.{or_first, looked_mode}
 use Rattle.fb_words.proofs.Joining.{on-append, on_none, on_here, on_there, joined_set_more, joined_set_same, joined_none, on_joined, upto_same, upto_more}
 use Rattle.fb_words.proofs.Cells.{one_owner}
 use Rattle.fb_words.proofs.Rows.{none_some, same_some}

@@ -1,21 +1,19 @@
 -- What looked words say of a table, and rows that are kept.
-use Rattle.std.proofs.Common.{◌≡◌, ℕ, zero, suc, ◌+◌, ◌*◌, ◌<◌, ◌≤◌, ◌==◌, nat_lt, ◌⊎◌, ⊎_elim, inl, inr, if◌then◌else◌, Bool, true, false, List, [], ◌∷◌, length, get_or, is_none, sym, refl, ap, ◌∙◌, subst, arith, Option, Some, None}
+use Rattle.std.proofs.Common.{◌≡◌, ℕ, zero, suc, ◌+◌, ◌<◌, ◌≤◌, ◌==◌, nat_lt, ⊎_elim, if◌then◌else◌, Bool, true, false, List, [], ◌∷◌, length, get_or, is_none, sym, refl, ap, ◌∙◌, subst, arith, Option, Some, None}
 use Rattle.std.proofs.lemmas.Bool.{false≢true}
 use Rattle.std.proofs.lemmas.Bool.Decides.{nat_tests}
 use mathlib.Core.Option.{some, some-injective, some-ne-none}
 use lib.ListN.{get_elem?}
 use Rattle.qws_base.specs.Sides.{Sides}
-use Rattle.qws_base.specs.Points.{pixel_count}
 use Rattle.region_table.specs.Numbers.{row_word, IsTableWord}
 use Rattle.region_table.specs.Packing.{unpacked}
-use Rattle.fb_words.specs.declared.known.Item.{Item}
 use Rattle.fb_words.specs.declared.known.Looked.{Looked}
 use Rattle.fb_words.specs.declared.known.KeptClip.{KeptClip}
 use Rattle.fb_words.specs.declared.known.Mode.{Mode}
 use Rattle.fb_words.specs.declared.known.Mode.TheVariants.{Idle, Refused, Reading}
 use Rattle.fb_words.specs.declared.known.Client.{Client}
-use Rattle.fb_words.specs.Tables.{is_table_word, IsLineWord, owner_in, revision_in, origin_in, count_in, rect_in, RectHas, IsOnScreen, IsTable, SameRow, Follows}
-use Rattle.fb_words.specs.Clips.{look_of, with_first, looks_of, rects_of, clip_of, is_value, spelled, row_seen, stored, if_slot, kept, IsRowIn, IsSound, IsClip, LooksTrue}
+use Rattle.fb_words.specs.Tables.{is_table_word, IsLineWord, revision_in, count_in, rect_in, RectHas, IsOnScreen, IsTable, SameRow, Follows}
+use Rattle.fb_words.specs.Clips.{look_of, with_first, looks_of, rects_of, clip_of, is_value, spelled, row_seen, stored, if_slot, kept, IsClip, LooksTrue}
 use Rattle.fb_words.specs.Rule.{LooksOk}
 use Rattle.fb_words.proofs.Spreads.{place_within}
 

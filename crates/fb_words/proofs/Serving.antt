@@ -2,8 +2,8 @@
 use Rattle.fb_words.proofs.Painting.{late_none, open_log_at, length_logs}
 use Rattle.fb_words.proofs.Joining.{on-append, on_here, on_there, joined_none, joined-append, upto_same, upto_more, written-append, shows-append}
 use Rattle.fb_words.specs.declared.known.Item.{Item}
-use Rattle.fb_words.specs.Segments.{joined, upto, call_items, open_items, client_items, nth_log, turn_log, server_items, segment, line, first_value, LineOk}
-use Rattle.fb_words.specs.Lines.{on, written, Shows}
+use Rattle.fb_words.specs.Segments.{joined, upto, call_items, open_items, client_items, nth_log, turn_log, server_items, segment, line, first_value, PicksOk, LineOk}
+use Rattle.fb_words.specs.Lines.{item_word, on, written, Shows}
 use Rattle.fb_words.specs.Carries.{CarriesStep}
 use Rattle.qws_base.specs.Colours.{IsSceneColour}
 use Rattle.qws_base.specs.Points.{pixel_count}
@@ -17,7 +17,7 @@ use Rattle.std.proofs.lemmas.Nat.Bits.{and_pow}
 use Rattle.std.proofs.lemmas.List.{length-map, get_or-set_other, get_or-set_same}
 use Rattle.std.proofs.lemmas.Bool.{false≢true}
 use Rattle.std.proofs.lemmas.Bool.Decides.{nat_tests}
-use mathlib.Core.Option.{some, none, some-injective, some-ne-none}
+use mathlib.Core.Option.{some, none, some-injective}
 use mathlib.Core.Logic.{dite}
 use native.Mathlib.Decide.{ℕ_discrete, dec_le}
 use lib.ListN.{get_elem?}
@@ -43,13 +43,13 @@ use Rattle.fb_words.specs.declared.known.Server.{Server}
 use Rattle.fb_words.specs.declared.known.View.{View}
 use Rattle.fb_words.specs.Views.{total, is_client, busy, reading, busy_mode, reading_mode, shut, is_writing, is_closing, steps_in, books_in, head_view, the_server, both_views, client_of, without}
 use Rattle.fb_words.specs.Rule.{World, clients_in, Spread, SeatOk, OrderOk, MayFollow, mark, step_call, steps_of, TablesOk, ClipsOk, LooksOk, Fits, Holds, OpenRights, PaintOk, CallOk, PaintsOk, StepsOk, LinesOk}
-use Rattle.fb_words.specs.Steps.{after_announce, announced, after_settle, settled, after_withdraw, withdrew, after_read, was_read, after_write, wrote, after_give, closed_turn, own_step, stepped, with_step, given, IsNextTable, told, AllSit, AllHere, arranged, Knows, ReadTells, CarriesAtGive}
+use Rattle.fb_words.specs.Steps.{after_announce, announced, after_settle, settled, after_withdraw, withdrew, was_read, wrote, after_give, closed_turn, own_step, stepped, with_step, given, IsNextTable, told, AllSit, AllHere, arranged, Knows, CarriesAtGive, IsBetweenTurns}
 use Rattle.fb_words.proofs.Places.{each_of, there}
-use Rattle.fb_words.proofs.Totals.{total_append, total_one, total_map, from_map, set_same}
+use Rattle.fb_words.proofs.Totals.{total_one, total_map, from_map, set_same}
 use Rattle.fb_words.proofs.Rows.{table_is, table_positive, table_below, clip_follows, line_is, line_far, not_both}
 use Rattle.fb_words.proofs.Spreads.{SitIn, server_steps, Moves, spread_set, place_within}
 use Rattle.fb_words.proofs.Sitting.{client_of_here}
-use Rattle.fb_words.proofs.Gate.{gate_set, gate_now, gate_small, SameWords, shut_most, tables_same, looks_same, looks_kept, tables_kept}
+use Rattle.fb_words.proofs.Gate.{gate_set, gate_now, gate_small, SameWords, tables_same, looks_same, looks_kept, tables_kept}
 
 -- what the rule says of the clients that sit with the head
 sits_well : (key : Setting) (words : List ℕ) (s : Server) (cs ps : List Client) → Fits key words record { server = s; clients = cs } → SitIn cs ps → AllSit s ps
@@ -58,6 +58,9 @@ sits_well key words s cs ps f sit k p e = let at = sit k p e in let ok = f.seats
   limit = ok.limit_is;
   seen = (f.order p.number p at).seen_within;
   own_steps = f.own_steps p.number p at;
+  order = f.order p.number p at;
+  clips = subst (λ k. ClipsOk k.size s p.number p) (sym f.setting.server) (f.clips p.number p at);
+  paints = subst (λ k. PaintsOk k s p.number p) (sym f.setting.server) (f.paints p.number p at);
 }
 
 -- where no item counts, the total is 0
@@ -120,6 +123,7 @@ fits_mode key words s cs m t n f idle gate apart = let same = gate_set words n i
   steps = f.steps;
   quiet = λ _. f.quiet idle;
   lines = lines_gate key words (set words 0 n) s cs same f.lines;
+  picks = f.picks;
 }
 
 -- ---- what is known where all clients sit
@@ -157,6 +161,7 @@ knows_of words s cs f = record {
   own_steps = f.own_steps;
   paints = f.paints;
   steps = f.steps;
+  picks = f.picks;
 }
 
 knows_all : (key : Setting) (words : List ℕ) (s : Server) (cs ps : List Client) → Fits key words record { server = s; clients = cs } → SitIn cs ps → AllHere s ps → Knows s (arranged (length s.limits) ps)
@@ -195,9 +200,17 @@ settles key slots id s ps closing idle = server_steps key slots id s ps 0 (λ n.
     (λ words cs f sit _ _. let n : ℕ = get_or words 0 0 in let is = f.gate in let door : shut s.mode ≡ 4294967296 = ap shut closing in (
       after_settle s n,
       go words cs f n refl (n == 4294967296) refl,
-      (refl, (λ here. let none_busy = all_idle s cs ps f.as_many sit here idle in omega arith), λ here. knows_all key words s cs ps f sit here),
+      (refl, (λ here. let none_busy = all_idle s cs ps f.as_many sit here idle in omega arith), (λ here. knows_all key words s cs ps f sit here), between words cs f),
     ))
   where
+    between : (words : List ℕ) (cs : List Client) → Fits key words record { server = s; clients = cs } → IsBetweenTurns s
+    between words cs f = let idle = ap is_writing closing in record {
+      empty = f.quiet idle;
+      last = f.tables.last idle;
+      wide = f.tables.wide;
+      is_table = subst (λ k. IsTable k.size (length s.limits) (length s.closed) s.present) (sym f.setting.server) (f.tables.well (length s.closed) s.present (f.tables.last idle));
+    }
+
     go : (words : List ℕ) (cs : List Client) (f : Fits key words record { server = s; clients = cs }) (n : ℕ) → n ≡ get_or words 0 0 → (b : Bool) → (n == 4294967296) ≡ b
         → Fits key (set words 0 n) record { server = record s { mode = (if b then Writing else Closing); turned = (if b then s.turned else s.turned ++ n ∷ []) }; clients = cs }
     go words cs f n is true hit = let door : shut s.mode ≡ 4294967296 = ap shut closing in let found : n ≡ 4294967296 = grind (arith, nat_tests) in let g = f.gate in
@@ -221,7 +234,7 @@ withdraws key slots id s ps closing = server_steps key slots id s ps 0 (λ n. (n
 
 tells : (key : Setting) (slots id : ℕ) (s : Server) (ps : List Client) → Allows (Holds key) slots id (head_view s ps, []) 0 (λ n. n) (told (step slots 0 0 0 none) (head_view s ps, []))
 tells key slots id s ps = server_steps key slots id s ps 0 (λ n. n) (told (step slots 0 0 0 none) (head_view s ps, []))
-    (λ words cs f sit _ _. (s, subst (λ x. Fits key x record { server = s; clients = cs }) (sym (set_same words 0)) f, (refl, sits_well key words s cs ps f sit)))
+    (λ words cs f sit once _. (s, subst (λ x. Fits key x record { server = s; clients = cs }) (sym (set_same words 0)) f, (refl, sits_well key words s cs ps f sit, once, (let many = f.as_many in let few = f.few in omega arith), λ here. knows_all key words s cs ps f sit here)))
 
 -- ---- give
 
@@ -392,6 +405,8 @@ given_carried key s e long carries ok k turn t u at_turn at_t at_u = each_of (λ
 fits_give : (key : Setting) (words : List ℕ) (s : Server) (cs : List Client) (e : JournalEntry) (n : ℕ) → Fits key words record { server = s; clients = cs } → s.mode ≡ Writing → e.number ≡ length s.closed + 1
     → n + 4294967296 ≡ get_or words 0 0 → e.client < length s.limits → IsNextTable s → CarriesAtGive s e → Fits key (set words 0 n) record { server = after_give s e; clients = map (with_step e) cs }
 fits_give key words s cs e n f writing next gate inside table carries = let same = gate_set words n in
+    let stays : (x : ℕ) → line x (after_give s e) (map (with_step e) cs) ≡ line x s cs =
+    (λ x. given_line x s cs e (λ c r at. late_none words (length s.closed) x (suc (suc (length s.closed))) r (omega arith) (f.order c r at) (f.looks c r at))) in
     let quiet = f.apart (ap is_writing writing) in
     let here : IsTable key.size (length s.limits) (length s.closed + 1) s.present = subst (λ x. IsTable x.size (length s.limits) (length s.closed + 1) s.present) f.setting.server table.is_table in record {
       setting = record { long = same.long ∙ f.setting.long; screen = f.setting.screen; colour = f.setting.colour; server = f.setting.server };
@@ -415,8 +430,8 @@ fits_give key words s cs e n f writing next gate inside table carries = let same
       steps = given_carried key s e f.tables.long (λ t at. subst (λ k. CarriesStep k (table_of t) (table_of s.present) e.command e.reply s.log) f.setting.server (carries t at)) f.steps;
       quiet = λ _. refl;
       lines = λ x far lt. let lo = line_far x far in
-          let stays = given_line x s cs e (λ c r at. late_none words (length s.closed) x (suc (suc (length s.closed))) r (omega arith) (f.order c r at) (f.looks c r at)) in
-          subst (λ z. LineOk key x z (line x (after_give s e) (map (with_step e) cs))) (sym (same.same x (omega arith))) (subst (LineOk key x (get_or words x 0)) (sym stays) (f.lines x far (rw (sym same.long) lt)));
+          subst (λ z. LineOk key x z (line x (after_give s e) (map (with_step e) cs))) (sym (same.same x (omega arith))) (subst (LineOk key x (get_or words x 0)) (sym (stays x)) (f.lines x far (rw (sym same.long) lt)));
+      picks = λ x. subst (Shows (first_value key x)) (sym (stays x)) (f.picks x);
     }
 
 gives_moves : (s : Server) (ps cs : List Client) (e : JournalEntry) → SitIn cs ps → 1 ≤ clients_in e.client (head_view s ps)
@@ -491,9 +506,20 @@ fits_table key words s cs i v t writing f = let old = f.tables in let quiet = f.
   steps = f.steps;
   quiet = f.quiet;
   lines = λ x far lt. subst (λ z. LineOk key x z (line x s cs)) (sym (get_or-set_other words i x v 0 (λ eq. not_both i x t far (sym eq)))) (f.lines x far (rw (sym (length-set words i v)) lt));
+  picks = f.picks;
 }
 
 -- ---- read and write, of line words
+
+-- the server's item i on the word x, where it shows what the line of x has written
+served_picks : (key : Setting) (words : List ℕ) (s : Server) (cs : List Client) (x : ℕ) (i : Item) → Fits key words record { server = s; clients = cs } → item_word i ≡ x
+    → Shows (written (first_value key x) (line x s cs)) (i ∷ []) → PicksOk key record s { log = s.log ++ i ∷ [] } cs
+served_picks key words s cs x i f same shows y = let E = length s.closed in let first = first_value key y in
+    let gained = server_line y s cs i (λ c r e. late_none words E y (suc E) r (omega arith) (f.order c r e) (f.looks c r e)) in
+    dite (ℕ_discrete y x)
+    (λ (eq : y ≡ x). let whole = gained ∙ ap (λ z. line y s cs ++ z) (on_here y i (same ∙ sym eq)) in
+    subst (Shows first) (sym whole) (shows-append first (line y s cs) (i ∷ []) (f.picks y) (subst (λ z. Shows (written (first_value key z) (line z s cs)) (i ∷ [])) (sym eq) shows)))
+    (λ (ne : y ≢ x). let whole = gained ∙ ap (λ z. line y s cs ++ z) (on_there y i (λ eq. ne (sym eq ∙ same))) ∙ append-nil (line y s cs) in subst (Shows first) (sym whole) (f.picks y))
 
 fits_line : (key : Setting) (words : List ℕ) (s : Server) (cs : List Client) (x v : ℕ) → IsLineWord x → IsSceneColour key.depth v → s.mode ≡ Writing → Fits key words record { server = s; clients = cs }
     → Fits key (set words x v) record { server = record s { log = s.log ++ Put x v ∷ [] }; clients = cs }
@@ -520,19 +546,18 @@ fits_line key words s cs x v far colour writing f = let quiet = f.apart (ap is_w
           dite (ℕ_discrete y x)
           (λ (eq : y ≡ x). let at_x : on y (i ∷ []) ≡ i ∷ [] = on_here y i (sym eq) in let whole = gained ∙ ap (λ z. line y s cs ++ z) at_x in record {
             is_written = subst (λ z. get_or (set words z v) y 0 ≡ v) eq (get_or-set_same words y v 0 inside) ∙ sym (written-append first (line y s cs) (i ∷ [])) ∙ ap (written first) (sym whole);
-            shows = subst (Shows first) (sym whole) (shows-append first (line y s cs) (i ∷ []) old.shows tt);
             colour = subst (IsSceneColour key.depth) (sym (subst (λ z. get_or (set words z v) y 0 ≡ v) eq (get_or-set_same words y v 0 inside))) colour;
           })
           (λ (ne : y ≢ x). let whole = gained ∙ ap (λ z. line y s cs ++ z) (on_there y i (λ eq. ne (sym eq))) ∙ append-nil (line y s cs) in record {
             is_written = get_or-set_other words x y v 0 ne ∙ old.is_written ∙ ap (written first) (sym whole);
-            shows = subst (Shows first) (sym whole) old.shows;
             colour = rw (get_or-set_other words x y v 0 ne) old.colour;
           });
+      picks = served_picks key words s cs x i f refl tt;
     }
 
-fits_read : (key : Setting) (words : List ℕ) (s : Server) (cs : List Client) (x : ℕ) → IsLineWord x → s.mode ≡ Writing → Fits key words record { server = s; clients = cs }
+fits_read : (key : Setting) (words : List ℕ) (s : Server) (cs : List Client) (x : ℕ) → IsLineWord x → x < length words → s.mode ≡ Writing → Fits key words record { server = s; clients = cs }
     → Fits key words record { server = record s { log = s.log ++ Pick x (get_or words x 0) ∷ [] }; clients = cs }
-fits_read key words s cs x far writing f = let n : ℕ = get_or words x 0 in let i = Pick x n in let E = length s.closed in let tables = f.tables in record {
+fits_read key words s cs x far within writing f = let n : ℕ = get_or words x 0 in let i = Pick x n in let E = length s.closed in let tables = f.tables in record {
   setting = record { long = f.setting.long; screen = f.setting.screen; colour = f.setting.colour; server = f.setting.server };
   gate = f.gate;
   apart = f.apart;
@@ -554,11 +579,11 @@ fits_read key words s cs x far writing f = let n : ℕ = get_or words x 0 in let
       dite (ℕ_discrete y x)
       (λ (eq : y ≡ x). let whole = gained ∙ ap (λ z. line y s cs ++ z) (on_here y i (sym eq)) in record {
         is_written = old.is_written ∙ sym (written-append first (line y s cs) (i ∷ [])) ∙ ap (written first) (sym whole);
-        shows = subst (Shows first) (sym whole) (shows-append first (line y s cs) (i ∷ []) old.shows (ap (λ z. get_or words z 0) (sym eq) ∙ old.is_written, tt));
         colour = old.colour;
       })
       (λ (ne : y ≢ x). let whole = gained ∙ ap (λ z. line y s cs ++ z) (on_there y i (λ eq. ne (sym eq))) ∙ append-nil (line y s cs) in
       subst (LineOk key y (get_or words y 0)) (sym whole) old);
+  picks = served_picks key words s cs x i f refl ((f.lines x far within).is_written, tt);
 }
 
 -- a table word, or a line word
@@ -580,7 +605,7 @@ reads key slots id s ps i lo hi writing = server_steps key slots id s ps i (λ n
     ))
     (λ (l : IsLineWord i). let here : i < length words = (let long = f.setting.long in omega arith) in let old = f.lines i l here in (
       record s { log = s.log ++ Pick i (get_or words i 0) ∷ [] },
-      subst (λ x. Fits key x record { server = record s { log = s.log ++ Pick i (get_or words i 0) ∷ [] }; clients = cs }) (sym (set_same words i)) (fits_read key words s cs i l writing f),
+      subst (λ x. Fits key x record { server = record s { log = s.log ++ Pick i (get_or words i 0) ∷ [] }; clients = cs }) (sym (set_same words i)) (fits_read key words s cs i l here writing f),
       (
         ap (λ b. let r : Server = record s { log = (if b then s.log else s.log ++ Pick i (get_or words i 0) ∷ []) } in let y : Me (Unit {0}) View = (head_view r ps, []) in y) (sym (line_is i l)),
         record {
@@ -642,43 +667,3 @@ pub writes_seat : (key : Setting) (slots id : ℕ) (me : Mine) (i v : ℕ) → I
     → Allows (Holds key) slots id me i (λ _. v) (λ _. wrote (step slots i v 0 none) me v)
 writes_seat key slots id me i v is writing lo colour = let P : Mine → Type 0 = λ m. Allows (Holds key) slots id m i (λ _. v) (λ _. wrote (step slots i v 0 none) m v) in
     subst P (sym is) (writes key slots id (the_server me.0) me.0.clients i v lo colour writing)
-
--- ---- what a head keeps
-
-pub joined_is_head : (m me : Mine) (u : View) → m ≡ (both_views me.0 u, me.1) → IsHead me → IsHead m
-joined_is_head m me u joined is = let P : Mine → Type 0 = IsHead in subst P (sym joined)
-    (ap (λ (x : Mine). let y : Mine = (record { server = x.0.server; clients = me.0.clients ++ u.clients }, x.1) in y) is)
-
-pub same_seat_sits : (m me : Mine) → m ≡ me → AllSit (the_server me.0) me.0.clients → AllSit (the_server m.0) m.0.clients
-same_seat_sits m me same sit = let P : Mine → Type 0 = λ x. AllSit (the_server x.0) x.0.clients in subst P (sym same) sit
-
-pub given_idle : (e : JournalEntry) (ps : List Client) → total busy ps ≡ 0 → total busy (map (with_step e) ps) ≡ 0
-given_idle e ps idle = total_map busy busy (with_step e) ps (λ p. ap busy_mode (same_mode e p)) ∙ idle
-
-pub risen_idle : (c : ℕ) (ps : List Client) → total busy ps ≡ 0 → total busy (without c ps) ≡ 0
-risen_idle c [] idle = refl
-risen_idle c (p ∷ ps) idle = go (p.number == c) (risen_idle c ps (omega arith))
-  where
-    go : (b : Bool) → total busy (without c ps) ≡ 0 → total busy (if b then ps else p ∷ without c ps) ≡ 0
-    go true r = omega arith
-    go false r = omega arith
-
--- what the head's type keeps, of a seat and the number of clients admitted
-abbrev pub HeadKeeps : Mine → ℕ → Bool → Type 0
-HeadKeeps me n b = IsHead me × (length (the_server me.0).limits ≡ n) × (total busy me.0.clients ≡ 0) × (b ≡ is_closing (the_server me.0).mode)
-
-pub risen_head : (m me : Mine) (c n : ℕ) (b : Bool) → m ≡ (record me.0 { clients = without c me.0.clients }, me.1) → HeadKeeps me n b → HeadKeeps m n b
-risen_head m me c n b is kept = let P : Mine → Type 0 = λ x. HeadKeeps x n b in subst P (sym is)
-    (ap (λ (x : Mine). let y : Mine = (record { server = x.0.server; clients = without c me.0.clients }, x.1) in y) kept.0, kept.1, risen_idle c me.0.clients kept.2, kept.3)
-
-pub joined_head : (m x me : Mine) (u : View) (n : ℕ) (b : Bool) → m ≡ x → x ≡ (both_views me.0 u, me.1) → HeadKeeps me n b → total busy u.clients ≡ 0 → HeadKeeps m n b
-joined_head m x me u n b same joined kept idle = let P : Mine → Type 0 = λ y. HeadKeeps y n b in
-    subst P (sym same) (
-      joined_is_head x me u joined kept.0,
-      subst (λ (y : Mine). length (the_server y.0).limits ≡ n) (sym joined) kept.1,
-      subst (λ (y : Mine). total busy y.0.clients ≡ 0) (sym joined) (let sum = total_append busy me.0.clients u.clients in let a = kept.2 in omega arith),
-      subst (λ (y : Mine). b ≡ is_closing (the_server y.0).mode) (sym joined) kept.3,
-    )
-
-pub given_head : (m me : Mine) (e : JournalEntry) (n : ℕ) (b : Bool) → (the_server me.0).mode ≡ Writing → m ≡ (head_view (after_give (the_server me.0) e) (map (with_step e) me.0.clients), []) → HeadKeeps me n b → HeadKeeps m n b
-given_head m me e n b writing is kept = let P : Mine → Type 0 = λ x. HeadKeeps x n b in subst P (sym is) (refl, kept.1, given_idle e me.0.clients kept.2, kept.3 ∙ ap is_closing writing)

@@ -1,7 +1,7 @@
 -- A client's seat leaves the head's, or its part goes to the head's. The world stays, or gains a client.
 use Rattle.fb_words.proofs.Joining.{joined-append, upto_same}
-use Rattle.fb_words.specs.Segments.{joined, client_items, server_items, segment, line, LineOk}
-use Rattle.fb_words.specs.Lines.{on}
+use Rattle.fb_words.specs.Segments.{joined, client_items, server_items, segment, line, first_value, LineOk}
+use Rattle.fb_words.specs.Lines.{on, Shows}
 use Rattle.std.proofs.Common.{◌≡◌, ℕ, zero, suc, ◌+◌, ◌<◌, ◌≤◌, ◌≢◌, ◌⊎◌, ◌==◌, nat_lt, if◌then◌else◌, ne_eqb, Bool, true, false, List, [], ◌∷◌, ◌++◌, length, set, length-append, sym, refl, ap, ◌∙◌, subst, inl, inr, ⊎_elim, arith, Option, Some, None, append-nil, slice_index}
 use Rattle.std.proofs.lemmas.Bool.Decides.{nat_tests}
 use mathlib.Core.Option.{some, some-ne-none}
@@ -17,7 +17,7 @@ use Rattle.qws_base.specs.Scenes.{Setting}
 use Rattle.fb_words.specs.Tables.{IsTable}
 use Rattle.qws_base.specs.declared.journals.BookEntry.{BookEntry}
 use Rattle.fb_words.specs.Views.{total, is_client, alone, busy, reading, only, head_view, without, client_of, nothing, both_views, the_server, steps_in, books_in}
-use Rattle.fb_words.specs.Rule.{World, clients_in, a_server, servers_in, IsServer, Spread, SeatOk, OrderOk, step_call, steps_of, TablesOk, ClipsOk, LooksOk, Fits, Holds, OpenRights, PaintsOk}
+use Rattle.fb_words.specs.Rule.{World, clients_in, a_server, servers_in, IsServer, Spread, SeatOk, OrderOk, step_call, steps_of, ClipsOk, LooksOk, Fits, Holds, OpenRights, PaintsOk}
 use Rattle.fb_words.specs.Steps.{fresh, with_limit}
 use Rattle.fb_words.proofs.Totals.{total_set, total_snoc, total_append, total_two}
 use Rattle.fb_words.proofs.Places.{each_of}
@@ -56,7 +56,7 @@ spread_split views w id v l q s here m = record {
 }
 
 -- what is left, and what goes
-still_there : (c : ℕ) (ps : List Client) (k : ℕ) (p : Client) → get_elem? (without c ps) k ≡ some p → (j : ℕ) × (get_elem? ps j ≡ some p)
+pub still_there : (c : ℕ) (ps : List Client) (k : ℕ) (p : Client) → get_elem? (without c ps) k ≡ some p → (j : ℕ) × (get_elem? ps j ≡ some p)
 still_there c [] k p e = absurd (some-ne-none p (sym e))
 still_there c (x ∷ xs) k p e = go (x.number == c) k e (λ k e. still_there c xs k p e)
   where
@@ -186,6 +186,7 @@ admit_fits key words s cs limit f room = let q = fresh s.setting (length s.limit
       steps = f.steps;
       quiet = f.quiet;
       lines = λ x far lt. subst (LineOk key x (slice_index words x)) (sym (admitted_line x s cs limit)) (f.lines x far lt);
+      picks = λ x. subst (Shows (first_value key x)) (sym (admitted_line x s cs limit)) (f.picks x);
     }
 
 -- a new client's seat leaves the head's
@@ -243,7 +244,7 @@ rises_seat key id c v is here = let P : View → Type 0 = λ u. Splits (Holds ke
 pub sits_seat : (key : Setting) (id other : ℕ) (v u : View) → u ≡ alone (only u.clients) → Joins (Holds key) id v other u (both_views v u) nothing
 sits_seat key id other v u is = let P : View → Type 0 = λ x. Joins (Holds key) id v other x (both_views v x) nothing in subst P (sym is) (sits key id other v (only u.clients))
 
-pub risen_ok : (m me : Me (Unit {0}) View) (c n : ℕ) (book : List BookEntry) → m ≡ (alone (client_of c me.0.clients), []) → 1 ≤ total (is_client c) me.0.clients → n ≡ c → book ≡ books_in (client_of c me.0.clients).own
-    → (m ≡ (alone (only m.0.clients), [])) × (n ≡ (only m.0.clients).number) × (book ≡ books_in (only m.0.clients).own)
-risen_ok m me c n book is here same books = let P : Me (Unit {0}) View → Type 0 = λ x. (x ≡ (alone (only x.0.clients), [])) × (n ≡ (only x.0.clients).number) × (book ≡ books_in (only x.0.clients).own) in
-    subst P (sym is) (refl, same ∙ sym (client_of_here c me.0.clients here).1, books)
+pub risen_ok : (m me : Me (Unit {0}) View) (c n seen : ℕ) (book : List BookEntry) → m ≡ (alone (client_of c me.0.clients), []) → 1 ≤ total (is_client c) me.0.clients → n ≡ c → book ≡ books_in (client_of c me.0.clients).own → seen ≡ (client_of c me.0.clients).seen
+    → (m ≡ (alone (only m.0.clients), [])) × (n ≡ (only m.0.clients).number) × (book ≡ books_in (only m.0.clients).own) × (seen ≡ (only m.0.clients).seen)
+risen_ok m me c n seen book is here same books saw = let P : Me (Unit {0}) View → Type 0 = λ x. (x ≡ (alone (only x.0.clients), [])) × (n ≡ (only x.0.clients).number) × (book ≡ books_in (only x.0.clients).own) × (seen ≡ (only x.0.clients).seen) in
+    subst P (sym is) (refl, same ∙ sym (client_of_here c me.0.clients here).1, books, saw)

@@ -11,6 +11,7 @@ use Rattle.fb_words.specs.declared.known.View.{View}
 use Rattle.qws_base.specs.Scenes.{Setting}
 use Rattle.fb_words.specs.Views.{total, is_client, alone, head_view}
 use Rattle.fb_words.specs.Rule.{World, clients_in, a_server, servers_in, IsServer, Spread, Fits, Holds}
+use Rattle.fb_words.specs.Steps.{SitOnce}
 use Rattle.fb_words.proofs.Totals.{total_set, total_one, total_two}
 
 pub is_itself : (p : Client) → is_client p.number p ≡ 1
@@ -115,13 +116,9 @@ client_steps key slots id p i f tells owes s holds _ at small =
 abbrev pub SitIn : List Client → List Client → Type 0
 SitIn cs ps = (k : ℕ) (p : Client) → get_elem? ps k ≡ some p → get_elem? cs p.number ≡ some p
 
--- no client stands twice among ps
-abbrev pub Single : List Client → Type 0
-Single ps = (c : ℕ) → total (is_client c) ps ≤ 1
-
 -- A step of the head's seat that changes the server part alone
 pub server_steps : (key : Setting) (slots id : ℕ) (s : Server) (ps : List Client) (i : ℕ) (f : ℕ → ℕ) (tells : ℕ → Me Empty View → Type 0)
-    → ((words : List ℕ) (cs : List Client) → Fits key words record { server = s; clients = cs } → SitIn cs ps → Single ps → get_or words i 0 < 18446744073709551616
+    → ((words : List ℕ) (cs : List Client) → Fits key words record { server = s; clients = cs } → SitIn cs ps → SitOnce ps → get_or words i 0 < 18446744073709551616
     → (t : Server) × Fits key (set words i (f (get_or words i 0))) record { server = t; clients = cs } × tells (get_or words i 0) (head_view t ps, []))
     → Allows (Holds key) slots id (head_view s ps, []) i f tells
 server_steps key slots id s ps i f tells owes st holds _ at small =
@@ -129,7 +126,7 @@ server_steps key slots id s ps i f tells owes st holds _ at small =
     let is : s ≡ w.server = holds.spread.server_is id v at in
     let sit : SitIn w.clients ps = holds.spread.client_is id v at in
     let same : w ≡ record { server = s; clients = w.clients } = ap (λ x. let y : World = record { server = x; clients = w.clients } in y) (sym is) in
-    let single : Single ps = (λ c. let one = holds.spread.one_client c in let most = at_most_one c (length w.clients) in let here = total_one (clients_in c) st.views id v at in omega arith) in
+    let single : SitOnce ps = (λ c. let one = holds.spread.one_client c in let most = at_most_one c (length w.clients) in let here = total_one (clients_in c) st.views id v at in omega arith) in
     let r = owes st.words w.clients (subst (λ x. Fits key st.words x) same holds.fits) sit single small in
     let t : Server = r.0 in let w' : World = record { server = t; clients = w.clients } in (
       head_view t ps,

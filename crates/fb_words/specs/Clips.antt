@@ -77,6 +77,14 @@ if_slot s (Some clip) other = if clip.slot == s then Some clip else other
 abbrev pub kept : Client → ℕ → Option KeptClip
 kept p s = if_slot s (row_seen p.number p.mode) (stored p.clips s)
 
+-- q keeps for each slot what p keeps
+abbrev pub KeepsClips : Client → Client → Type 0
+KeepsClips p q = (slot : ℕ) → kept q slot ≡ kept p slot
+
+-- the same of each client, place by place
+abbrev pub EachKeepsClips : List Client → List Client → Type 0
+EachKeepsClips ps qs = (k : ℕ) (p q : Client) → get_elem? ps k ≡ some p → get_elem? qs k ≡ some q → KeepsClips p q
+
 -- the clips after a turn: the row that it looked at is stored
 abbrev pub with_row : Option KeptClip → List KeptClip → List KeptClip
 with_row None clips = clips
@@ -139,3 +147,8 @@ pub record Sees (p : Client) : Type 0 where
   pub looks : LooksTrue table (looked_in p.mode)
   pub seen : p.seen ≤ slice_index table 1
   pub clips : (k : ℕ) (clip : KeptClip) → get_elem? p.clips k ≡ some clip → IsClip p.setting.size table p.number clip
+
+-- A client that sees a table keeps for each slot a clip of the slot, which is judged by the table.
+abbrev pub KeptLaw : Type 0
+KeptLaw = (p : Client) (sees : Sees p) (slot : ℕ) (clip : KeptClip) → kept p slot ≡ Some clip
+    → (clip.slot ≡ slot) × IsClip p.setting.size sees.table p.number clip

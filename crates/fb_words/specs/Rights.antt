@@ -1,11 +1,10 @@
 -- Which pixel words a client may read and write in a turn.
-use Rattle.std.specs.Prelude.{◌≡◌, ℕ, ◌+◌, ◌/◌, ◌%◌, ◌^◌, ◌<◌, ◌==◌, ◌⊎◌, ⊤, List, [], Option, Some, None, slice_index}
+use Rattle.std.specs.Prelude.{◌≡◌, ℕ, ◌+◌, ◌/◌, ◌%◌, ◌^◌, ◌<◌, ◌==◌, ◌⊎◌, List, [], Option, Some, slice_index}
 use mathlib.Core.Option.{some}
 use lib.ListN.{get_elem?}
 use Rattle.qws_base.specs.Sides.{Sides}
 use Rattle.qws_base.specs.Points.{point_of, pixel_count}
 use Rattle.qws_base.specs.Shown.{cell_on}
-use Rattle.qws_base.specs.declared.points.Point.{Point}
 use Rattle.qws_base.specs.declared.windows.Cursor.{Cursor}
 use Rattle.region_table.specs.Numbers.{row_word, pixel_word, saved_word}
 use Rattle.fb_words.specs.declared.known.Item.{Item}
@@ -13,7 +12,7 @@ use Rattle.fb_words.specs.declared.known.KeptClip.{KeptClip}
 use Rattle.fb_words.specs.declared.known.Client.{Client}
 use Rattle.fb_words.specs.Lines.{item_word}
 use Rattle.fb_words.specs.Tables.{owner_in, RectHas, RowHas}
-use Rattle.fb_words.specs.Clips.{look_of, stamp_in, slot_in, looked_in, kept}
+use Rattle.fb_words.specs.Clips.{look_of, stamp_in, slot_in, looked_in, kept, Sees}
 
 -- ---- cells
 
@@ -80,3 +79,7 @@ pub record Owns (p : Client) (x : ℕ) : Type 0 where
   pub holds : RectHas p.setting.size rect_word pixel
   pub word : (x ≡ pixel_word pixel)
       ⊎ ((place : ℕ) × (shape : ℕ) × (look_of (looked_in p.mode) 2 ≡ Some place) × (look_of (looked_in p.mode) 3 ≡ Some shape) × IsSavedOver p.setting.size place shape pixel x)
+
+-- what a client owns in its turn, a table that it sees gives it in the slot of the kept clip
+abbrev pub OwnedLaw : Type 0
+OwnedLaw = (p : Client) (sees : Sees p) (x : ℕ) (owns : Owns p x) → IsGiven p.setting.size sees.table p.number owns.clip.slot x

@@ -7,6 +7,7 @@ use Rattle.qws_base.specs.Sides.{Sides, IsScreen}
 use Rattle.qws_base.specs.Points.{pixel_count}
 use Rattle.qws_base.specs.Colours.{IsSceneColour}
 use Rattle.qws_base.specs.Scenes.{Setting}
+use Rattle.qws_base.specs.declared.replies.PaintReply.TheVariants.{Gone}
 use Rattle.region_table.specs.Numbers.{IsTableWord}
 use Rattle.fb_words.specs.declared.known.StepCall.{StepCall}
 use Rattle.fb_words.specs.declared.known.PaintCall.{PaintCall}
@@ -21,7 +22,7 @@ use Rattle.fb_words.specs.declared.known.Server.{Server}
 use Rattle.fb_words.specs.declared.known.View.{View}
 use Rattle.fb_words.specs.Tables.{first_pixel, opening_table, table_of, IsLineWord, IsTable, Follows}
 use Rattle.fb_words.specs.Carries.{CarriesStep, CarriesPaintUnder, RepliesUnder}
-use Rattle.fb_words.specs.Segments.{line, LineOk}
+use Rattle.fb_words.specs.Segments.{line, LineOk, PicksOk}
 use Rattle.fb_words.specs.Rights.{LogIn}
 use Rattle.fb_words.specs.Clips.{IsClip, LooksTrue}
 use Rattle.fb_words.specs.Views.{total, is_client, busy, reading, shut, is_writing, steps_in, opening_server}
@@ -129,12 +130,13 @@ OpenRights size t c (Reading None slot looked log) = log ≡ []
 OpenRights size t c (Reading (Some e) None looked log) = log ≡ []
 OpenRights size t c (Reading (Some e) (Some s) looked log) = LogIn size t c s log
 
--- rights of a paint, and carried turns: the same of a closed turn under the table of its stamp, and its log carries its
--- paint with the paint's reply
+-- rights of a paint, and carried turns: the same of a closed turn under the table of its stamp; its log carries its paint
+-- with the paint's reply; and where that is Gone, nothing was read or written
 pub record PaintOk (setting : Setting) (t : List ℕ) (c : ℕ) (p : PaintCall) : Type 0 where
   pub rights : LogIn setting.size t c p.slot p.log
   pub carried : CarriesPaintUnder setting (table_of t) p.slot p.sheet p.reply p.log
   pub answered : RepliesUnder setting (table_of t) c p.slot p.sheet p.reply
+  pub gone : p.reply ≡ Gone → p.log ≡ []
 
 abbrev pub CallOk : Setting → List (List ℕ) → ℕ → Call → Type 0
 CallOk setting tables c (Step s) = ⊤
@@ -183,6 +185,7 @@ pub record Fits (key : Setting) (words : List ℕ) (w : World) : Type 0 where
   -- line values
   pub quiet : is_writing w.server.mode ≡ false → w.server.log ≡ []
   pub lines : LinesOk key words w.server w.clients
+  pub picks : PicksOk key w.server w.clients
 
 pub record Holds (key : Setting) (s : State (Unit {0}) View) : Type 0 where
   pub world : World

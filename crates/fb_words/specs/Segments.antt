@@ -62,8 +62,11 @@ line x s cs = upto (segment x s cs) (suc (length s.closed))
 abbrev pub first_value : Setting → ℕ → ℕ
 first_value setting x = if nat_lt x first_pixel then 0 else setting.backdrop
 
--- the word is what its line has written, each Pick of the line shows the last Put before it, and it is a scene colour
+-- each Pick of a line shows the last Put before it, else the opening value
+abbrev pub PicksOk : Setting → Server → List Client → Type 0
+PicksOk setting s cs = (x : ℕ) → Shows (first_value setting x) (line x s cs)
+
+-- the word is what its line has written, and it is a scene colour
 pub record LineOk (setting : Setting) (x value : ℕ) (items : List Item) : Type 0 where
   pub is_written : value ≡ written (first_value setting x) items
-  pub shows : Shows (first_value setting x) items
   pub colour : IsSceneColour setting.depth value

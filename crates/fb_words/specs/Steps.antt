@@ -2,7 +2,7 @@
 use Rattle.std.specs.List.{range_with_len}
 use Rattle.qws_base.specs.Colours.{IsSceneColour}
 use Rattle.fb_words.specs.Lines.{written}
-use Rattle.fb_words.specs.Segments.{line, first_value}
+use Rattle.fb_words.specs.Segments.{line, first_value, PicksOk}
 use Rattle.fb_words.specs.Carries.{CarriesStep, CarriesPaintUnder, RepliesUnder}
 use Rattle.std.specs.Prelude.{◌≡◌, ℕ, ◌<◌, ◌≤◌, ◌==◌, nat_lt, if◌then◌else◌, List, [], ◌∷◌, ◌++◌, map, length, None, ◌+◌, Option, Some, pos, slice_index, slice_set}
 use mathlib.Core.Option.{some}
@@ -29,10 +29,10 @@ use Rattle.fb_words.specs.declared.known.Client.{Client}
 use Rattle.fb_words.specs.declared.known.Closed.{Closed}
 use Rattle.fb_words.specs.declared.known.Server.{Server}
 use Rattle.fb_words.specs.declared.known.View.{View}
-use Rattle.fb_words.specs.Tables.{is_table_word, revision_of_slot, IsTable, Follows, opening_table, table_of, IsLineWord}
+use Rattle.fb_words.specs.Tables.{first_pixel, is_table_word, revision_of_slot, IsTable, Follows, opening_table, table_of, IsLineWord}
 use Rattle.fb_words.specs.Clips.{stamp_in, slot_in, log_in, looked_in, row_seen, with_row, Sees}
 use Rattle.fb_words.specs.Views.{total, is_client, steps_in, books_in, alone, only, head_view, the_server, client_of}
-use Rattle.fb_words.specs.Rule.{steps_of, OrderOk, PaintsOk, StepsOk}
+use Rattle.fb_words.specs.Rule.{steps_of, OrderOk, ClipsOk, PaintsOk, StepsOk}
 
 abbrev pub Empty : Type 0
 Empty = Unit {0}
@@ -70,8 +70,12 @@ looked_mode i n (Reading stamp slot looked log) =
 abbrev pub after_look : Client → ℕ → ℕ → Client
 after_look p i n = record p { mode = looked_mode i n p.mode }
 
+-- a looked stamp is the turn's
+abbrev pub IsTurnStamp : Client → ℕ → ℕ → Type 0
+IsTurnStamp p i n = i ≡ 1 → stamp_in p.mode ≡ Some n
+
 abbrev pub looked_at : Step Empty → Me Empty View → ℕ → Me Empty View → Type 0
-looked_at st me n me' = let q = after_look (only me.0.clients) st.word n in (me' ≡ (alone q, [])) × Sees q
+looked_at st me n me' = let q = after_look (only me.0.clients) st.word n in (me' ≡ (alone q, [])) × Sees q × IsTurnStamp q st.word n
 
 -- a pick and a put: one item more in the log
 abbrev pub item_mode : Item → Mode → Mode
@@ -121,17 +125,20 @@ pub record Sits (s : Server) (p : Client) : Type 0 where
   pub limit : get_elem? s.limits p.number ≡ some p.step_limit
   pub seen : p.seen ≤ length s.closed
   pub own_steps : steps_in p.own ≡ steps_of p.number 0 s.closed
+  pub order : OrderOk (length s.closed) p
+  pub clips : ClipsOk s.setting.size s p.number p
+  pub paints : PaintsOk s.setting s p.number p
 
 abbrev pub AllSit : Server → List Client → Type 0
 AllSit s ps = (k : ℕ) (p : Client) → get_elem? ps k ≡ some p → Sits s p
 
+-- no client sits twice
+abbrev pub SitOnce : List Client → Type 0
+SitOnce ps = (c : ℕ) → total (is_client c) ps ≤ 1
+
 -- each admitted client sits
 abbrev pub AllHere : Server → List Client → Type 0
 AllHere s ps = (c : ℕ) → c < length s.limits → (k : ℕ) × (p : Client) × (get_elem? ps k ≡ some p) × (p.number ≡ c)
-
--- a load that changes nothing
-abbrev pub told : Step Empty → Me Empty View → ℕ → Me Empty View → Type 0
-told st me n me' = (me' ≡ me) × AllSit (the_server me.0) me.0.clients
 
 abbrev pub after_announce : Server → Server
 after_announce s = record s { mode = Closing }
@@ -148,8 +155,15 @@ after_settle s n = record s { mode = (if n == 4294967296 then Writing else Closi
 abbrev pub arranged : ℕ → List Client → List Client
 arranged n ps = map (λ c. client_of c ps) (range_with_len 0 n)
 
--- What is known of all closed turns where all admitted clients sit: the tables, the clients' own calls in their order, and
--- that each turn carries its entry.
+-- where the server isn't writing, its log is empty, and the present table is the last closed one, which is well formed
+pub record IsBetweenTurns (s : Server) : Type 0 where
+  pub empty : s.log ≡ []
+  pub last : get_elem? s.tables (length s.closed) ≡ some s.present
+  pub wide : length s.present ≡ first_pixel
+  pub is_table : IsTable s.setting.size (length s.limits) (length s.closed) s.present
+
+-- What is known of all closed turns where all admitted clients sit: the tables, the clients' own calls in their order, that
+-- each turn carries its entry, and that each Pick shows the last Put before it.
 pub record Knows (s : Server) (cs : List Client) : Type 0 where
   pub long : length s.tables ≡ length s.closed + 1
   pub first : get_elem? s.tables 0 ≡ some opening_table
@@ -160,11 +174,18 @@ pub record Knows (s : Server) (cs : List Client) : Type 0 where
   pub own_steps : (c : ℕ) (p : Client) → get_elem? cs c ≡ some p → steps_in p.own ≡ steps_of c 0 s.closed
   pub paints : (c : ℕ) (p : Client) → get_elem? cs c ≡ some p → PaintsOk s.setting s c p
   pub steps : StepsOk s.setting s
+  pub picks : PicksOk s.setting s cs
 
--- where all admitted clients sit, it finds 2^32, and all closed turns are known
+-- a load that changes nothing; where all admitted clients sit, all closed turns are known
+abbrev pub told : Step Empty → Me Empty View → ℕ → Me Empty View → Type 0
+told st me n me' = let s = the_server me.0 in let ps = me.0.clients in
+    (me' ≡ me) × AllSit s ps × SitOnce ps × (length s.limits ≤ 16) × (AllHere s ps → Knows s (arranged (length s.limits) ps))
+
+-- the turn would open with an empty log and the last closed table; where all admitted clients sit, it finds 2^32, and all
+-- closed turns are known
 abbrev pub settled : Step Empty → Me Empty View → ℕ → Me Empty View → Type 0
 settled st me n me' = let s = the_server me.0 in let ps = me.0.clients in
-    (me' ≡ (head_view (after_settle s n) ps, [])) × (AllHere s ps → n ≡ 4294967296) × (AllHere s ps → Knows s (arranged (length s.limits) ps))
+    (me' ≡ (head_view (after_settle s n) ps, [])) × (AllHere s ps → n ≡ 4294967296) × (AllHere s ps → Knows s (arranged (length s.limits) ps)) × IsBetweenTurns s
 
 -- a read of word i that found n, and a write of word i
 abbrev pub after_read : Server → ℕ → ℕ → Server

@@ -1,11 +1,11 @@
 -- The table words, by word number: a list that begins at word 0, of which words 1 to 1,027 and 2,052 to 10,631 say something.
-use Rattle.std.specs.Prelude.{◌≡◌, ℕ, ◌+◌, ◌-◌, ◌/◌, ◌%◌, ◌^◌, ◌<◌, ◌≤◌, ◌==◌, nat_lt, Bool, true, false, ◌&&◌, not, pos, ◌≤ℤ◌, ◌⊎◌, if◌then◌else◌, Option, Some, None, List, map, slice_index}
+use Rattle.std.specs.Prelude.{◌≡◌, ℕ, ◌+◌, ◌-◌, ◌/◌, ◌%◌, ◌^◌, ◌<◌, ◌≤◌, ◌==◌, nat_lt, Bool, true, false, pos, ◌≤ℤ◌, ◌⊎◌, if◌then◌else◌, Option, Some, None, List, map, slice_index}
 use Rattle.std.specs.List.{range_with_len}
 use Rattle.qws_base.specs.Sides.{Sides}
 use Rattle.qws_base.specs.Points.{holds, point_of, pixel_count, IsPlaced}
 use Rattle.qws_base.specs.Regions.{HasPixels, right, bottom}
 use Rattle.qws_base.specs.declared.points.Rect.{Rect}
-use Rattle.region_table.specs.Numbers.{row_word, IsTableWord}
+use Rattle.region_table.specs.Numbers.{row_word}
 use Rattle.region_table.specs.Packing.{unpacked}
 use Rattle.region_table.specs.Tables.{origin_from, table_from}
 use Rattle.region_table.specs.declared.tables.Table.{Table}

@@ -1,5 +1,7 @@
 -- The parts that seats hold, and what contracts see of tokens.
-use Rattle.std.specs.Prelude.{ℕ, ◌+◌, ◌==◌, if◌then◌else◌, Bool, true, false, List, [], ◌∷◌, ◌++◌, Option, Some, None}
+use Rattle.std.specs.Prelude.{◌≡◌, ℕ, ◌+◌, ◌<◌, ◌==◌, if◌then◌else◌, Bool, true, false, List, [], ◌∷◌, ◌++◌, Option, Some, None, slice_index}
+use mathlib.Core.Option.{some}
+use lib.ListN.{get_elem?}
 use Rattle.atomic_table.specs.Seated.{TableId}
 use Rattle.qws_base.specs.Scenes.{Setting}
 use Rattle.qws_base.specs.declared.colours.Depth.TheVariants.{Full}
@@ -138,6 +140,10 @@ without c (p ∷ ps) = if p.number == c then ps else p ∷ without c ps
 abbrev pub client_of : ℕ → List Client → Client
 client_of c [] = no_client
 client_of c (p ∷ ps) = if p.number == c then p else client_of c ps
+
+-- the numbers are what the clients have seen, each at the place of its number
+pub record HasSeen (seen : List ℕ) (ps : List Client) : Type 0 where
+  pub each : (k : ℕ) (p : Client) → get_elem? ps k ≡ some p → (p.number < 16) × (slice_index seen p.number ≡ p.seen)
 
 -- ---- tokens
 

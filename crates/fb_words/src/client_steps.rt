@@ -3,9 +3,9 @@ ghost use Rattle.std.specs.Prelude.{◌≡◌, ℕ, ◌+◌, ◌<◌, ◌≤◌,
 ghost use Rattle.region_table.specs.Numbers.{IsTableWord, row_word};
 ghost use Rattle.fb_words.specs.declared.known.KeptClip.{KeptClip};
 ghost use Rattle.fb_words.specs.declared.known.Mode.TheVariants.{Idle, Refused};
-ghost use Rattle.fb_words.specs.Clips.{look_of, looked_in, kept, Sees};
+ghost use Rattle.fb_words.specs.Clips.{look_of, looked_in, slot_in, spelled, kept, KeepsClips, Sees};
 ghost use Rattle.fb_words.specs.Views.{reading, books_in};
-ghost use Rattle.fb_words.specs.Steps.{after_enter, after_retreat, after_look, after_item, paint_call, after_leave, IsEntryOf, CarriesAtEnd};
+ghost use Rattle.fb_words.specs.Steps.{after_enter, after_retreat, after_look, after_item, paint_call, after_leave, IsEntryOf, CarriesAtEnd, IsTurnStamp};
 ghost use Rattle.fb_words.specs.Rights.{Owns};
 ghost use Rattle.qws_base.specs.Colours.{IsSceneColour};
 ghost use Rattle.fb_words.specs.declared.known.Item.TheVariants.{Pick, Put};
@@ -22,7 +22,8 @@ impl Screen {
     pub fn enter(&self, pass: &mut Pass) -> u64
         requires screen { pass.old.screen ≡ self.now }
         requires idle { pass.old.client.mode ≡ Idle }
-        ensures { pass.new ≡ record pass.old { client = after_enter pass.old.client result } }
+        ensures pass { pass.new ≡ record pass.old { client = after_enter pass.old.client result } }
+        ensures kept { KeepsClips pass.old.client pass.new.client }
     {
         self.table.shared.fetch_add::<Enters>(&mut pass.seat, 0, 1)
     }
@@ -31,15 +32,18 @@ impl Screen {
     pub fn retreat(&self, pass: &mut Pass)
         requires screen { pass.old.screen ≡ self.now }
         requires refused { pass.old.client.mode ≡ Refused }
-        ensures { pass.new ≡ record pass.old { client = after_retreat pass.old.client } }
+        ensures pass { pass.new ≡ record pass.old { client = after_retreat pass.old.client } }
+        ensures kept { KeepsClips pass.old.client pass.new.client }
     {
         self.table
             .shared
             .fetch_sub::<Retreats>(&mut pass.seat, 0, 1);
     }
 
-    /// Looks at a table word in the turn, and answers its value, the same at each look of the turn. A stamp is at least what
-    /// the pass has seen, and a revision at least the kept one. The first revision that is looked at fixes the turn's slot.
+    /// Looks at a table word in the turn, and answers its value, the same at each look of the turn. A stamp is the turn's, and
+    /// at least what the pass has seen; a revision is at least the kept one, and a number of rectangles at most 256. The first
+    /// revision that is looked at fixes the turn's slot. Where the looked words spell the whole row of that slot, and the
+    /// client owns it, the row is the slot's kept clip from then on; those of other slots stay.
     pub fn look(&self, pass: &mut Pass, word: u64) -> u64
         requires screen { pass.old.screen ≡ self.now }
         requires reading { reading pass.old.client ≡ 1 }
@@ -48,7 +52,11 @@ impl Screen {
         ensures present { Sees pass.new.client }
         ensures same { (value : ℕ) → look_of (looked_in pass.old.client.mode) word ≡ Some value → result ≡ value }
         ensures stamp { word ≡ 1 → pass.old.client.seen ≤ result }
+        ensures turn_stamp { IsTurnStamp pass.new.client word result }
+        ensures count { (slot : ℕ) → slot < 33 → word ≡ row_word slot + 3 → result ≤ 256 }
         ensures revision { (slot : ℕ) (clip : KeptClip) → slot < 33 → word ≡ row_word slot + 1 → kept pass.old.client slot ≡ Some clip → clip.revision ≤ result }
+        ensures row { (slot : ℕ) (clip : KeptClip) → slot_in pass.new.client.mode ≡ Some slot → spelled pass.new.client.number slot (looked_in pass.new.client.mode) ≡ Some clip → kept pass.new.client slot ≡ Some clip }
+        ensures kept { (slot : ℕ) → (slot_in pass.new.client.mode ≡ Some slot → ⊥) → kept pass.new.client slot ≡ kept pass.old.client slot }
     {
         self.table
             .shared
@@ -60,6 +68,7 @@ impl Screen {
         requires screen { pass.old.screen ≡ self.now }
         requires owns { Owns pass.old.client word }
         ensures pass { pass.new ≡ record pass.old { client = after_item pass.old.client (Pick word result) } }
+        ensures kept { KeepsClips pass.old.client pass.new.client }
         ensures colour { IsSceneColour pass.old.client.setting.depth result }
     {
         self.table
@@ -72,7 +81,8 @@ impl Screen {
         requires screen { pass.old.screen ≡ self.now }
         requires owns { Owns pass.old.client word }
         requires colour { IsSceneColour pass.old.client.setting.depth value }
-        ensures { pass.new ≡ record pass.old { client = after_item pass.old.client (Put word value) } }
+        ensures pass { pass.new ≡ record pass.old { client = after_item pass.old.client (Put word value) } }
+        ensures kept { KeepsClips pass.old.client pass.new.client }
     {
         self.table
             .shared
@@ -90,18 +100,21 @@ impl Screen {
         self.table
             .shared
             .fetch_sub::<Leaves<T>>(&mut pass.seat, 0, 1);
+        pass.seen = entry.stamp;
         pass.book.push(entry);
     }
 
     /// Closes the turn with its entry, which goes into the book, and with the sheet of the picture. The entry has the turn's
     /// stamp, and its slot where the turn has read or written a pixel. The turn's log carries the paint, and the reply is the
-    /// paint's, whatever the table is of which the turn has looked at a part. It takes no memory.
+    /// paint's, whatever the table is of which the turn has looked at a part. What is kept for each slot stays: the row that
+    /// the turn has looked at whole is stored. It takes no memory.
     pub fn leave<P: Picture>(&self, pass: &mut Pass, entry: BookEntry, picture: &P)
         requires screen { pass.old.screen ≡ self.now }
         requires entry { IsEntryOf pass.old.client entry }
         requires room { length (books_in pass.old.client.own) < pass.old.book_limit }
         requires carries { CarriesAtEnd pass.old.client entry (P.sheet picture.now) }
-        ensures { pass.new ≡ record pass.old { client = after_leave pass.old.client (paint_call pass.old.client entry (P.sheet picture.now)) } }
+        ensures pass { pass.new ≡ record pass.old { client = after_leave pass.old.client (paint_call pass.old.client entry (P.sheet picture.now)) } }
+        ensures kept { KeepsClips pass.old.client pass.new.client }
     {
         self.leave_as::<Brand, P>(pass, entry, picture);
     }

@@ -1,6 +1,8 @@
-//! The law of carrying. Each function does nothing; its clause is the law.
+//! The law of carrying, and those of kept clips and owned words. Each function does nothing; its clause is the law.
 ghost use Rattle.fb_words.specs.Carries.{StepLaw, PaintLaw};
 ghost use Rattle.fb_words.specs.Sessions.{SessionLaw, PictureLaw};
+ghost use Rattle.fb_words.specs.Clips.{KeptLaw};
+ghost use Rattle.fb_words.specs.Rights.{OwnedLaw};
 
 /// Where words stand for a scene that is the backdrop outside all rows, the words after a log that carries a step stand
 /// for the scene after the step.
@@ -24,4 +26,17 @@ pub fn sessions_are_carried()
 /// their framebuffer words are its shown picture.
 pub fn pictures_are_shown()
     ensures { PictureLaw }
+{}
+
+/// What a client keeps for a slot is a clip of that slot. Its rectangles are at most 256, on the screen and disjoint; its
+/// revision is at most that of the slot's row in the table that the client sees; and where the two are equal, it is that row,
+/// which the client owns.
+pub fn kept_clips_are_judged()
+    ensures { KeptLaw }
+{}
+
+/// A word that a client owns in its turn is the framebuffer word of a pixel that a table which the client sees gives it in the
+/// kept clip's slot, or the saved word of a shown cell over such a pixel.
+pub fn owned_words_are_given()
+    ensures { OwnedLaw }
 {}

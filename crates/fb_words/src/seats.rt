@@ -8,7 +8,7 @@ ghost use Rattle.fb_words.specs.declared.known.Mode.TheVariants.{Idle};
 ghost use Rattle.region_table.specs.Opening.{opening_word};
 ghost use Rattle.fb_words.specs.Tables.{first_pixel, opening_words};
 ghost use Rattle.fb_words.specs.Views.{opening_server, total, is_client, books_in, without, client_of};
-ghost use Rattle.fb_words.specs.Steps.{with_limit, fresh, AllSit, SitsAs};
+ghost use Rattle.fb_words.specs.Steps.{with_limit, fresh, AllSit, SitOnce, AllHere, Knows, arranged, SitsAs};
 
 use crate::known::ScreenSetting;
 use crate::plays::{Admits, Number, Rises, Sits, Tells};
@@ -111,6 +111,7 @@ impl Screen {
             Head {
                 admitted: 0,
                 closing: false,
+                seen: [0; 16],
                 seat,
             },
         ))
@@ -126,7 +127,11 @@ impl Screen {
     {
         let seat = self.table.shared.split_seat::<Admits<N>>(&mut head.seat);
         head.admitted += 1;
-        Pass { book, seat }
+        Pass {
+            book,
+            seen: 0,
+            seat,
+        }
     }
 
     /// Admits the next client, with room in its book for so many entries. After want of memory the head is as before.
@@ -148,17 +153,21 @@ impl Screen {
     }
 
     /// The client's part sits with the head. One load of the gate word, which changes nothing, tells what the rule says of the
-    /// clients that sit.
+    /// clients that sit: their step limits, their own steps among the closed turns, the order of their calls, their kept clips,
+    /// and that none sits twice. Where all admitted clients sit then, all closed turns are known.
     pub fn sit(&self, head: &mut Head, pass: Pass) -> Stub
         requires screens { (head.old.screen ≡ self.now) × (pass.screen ≡ self.now) }
         requires idle { pass.client.mode ≡ Idle }
         ensures head { head.new ≡ record head.old { sitting = head.old.sitting ++ pass.client ∷ [] } }
         ensures known { AllSit head.new.server head.new.sitting }
+        ensures once { SitOnce head.new.sitting }
+        ensures all { AllHere head.new.server head.new.sitting → Knows head.new.server (arranged (length head.new.server.limits) head.new.sitting) }
         ensures stub { result ≡ record { client = pass.client.number; limit = pass.book_limit; entries = books_in pass.client.own } }
     {
-        let Pass { book, seat } = pass;
+        let Pass { book, seen, seat } = pass;
         self.table.shared.join_seat::<Sits>(&mut head.seat, seat);
         self.table.shared.load::<Tells>(&mut head.seat, 0);
+        head.seen[book.client() as usize] = seen;
         Stub { book }
     }
 
@@ -168,18 +177,21 @@ impl Screen {
         requires sits { SitsAs stub head.old.sitting }
         ensures head { head.new ≡ record head.old { sitting = without stub.client head.old.sitting } }
         ensures pass { result ≡ record { screen = record self.now { setting = (client_of stub.client head.old.sitting).setting }; client = client_of stub.client head.old.sitting; book_limit = stub.limit } }
+        ensures idle { result.client.mode ≡ Idle }
     {
         let seat = self.table.shared.split_seat::<Rises<N>>(&mut head.seat);
         let Stub { book } = stub;
-        Pass { book, seat }
+        let seen = head.seen[book.client() as usize];
+        Pass { book, seen, seat }
     }
 
-    /// The client's part leaves the head's seat.
+    /// The client's part leaves the head's seat, in no turn.
     pub fn rise(&self, head: &mut Head, stub: Stub) -> Pass
         requires screen { head.old.screen ≡ self.now }
         requires sits { SitsAs stub head.old.sitting }
         ensures head { head.new ≡ record head.old { sitting = without stub.client head.old.sitting } }
         ensures pass { result ≡ record { screen = record self.now { setting = (client_of stub.client head.old.sitting).setting }; client = client_of stub.client head.old.sitting; book_limit = stub.limit } }
+        ensures idle { result.client.mode ≡ Idle }
     {
         self.rise_as::<Brand>(head, stub)
     }

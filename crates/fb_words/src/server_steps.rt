@@ -5,7 +5,8 @@ ghost use Rattle.qws_base.specs.Colours.{IsSceneColour};
 ghost use Rattle.fb_words.specs.Tables.{first_pixel, IsLineWord};
 ghost use Rattle.fb_words.specs.declared.known.ServerMode.TheVariants.{Resting, Closing, Writing};
 ghost use Rattle.fb_words.specs.Views.{total, is_client};
-ghost use Rattle.fb_words.specs.Steps.{after_announce, after_settle, after_withdraw, after_read, after_write, IsNextTable, CarriesAtGive, after_give, with_step, AllHere, Knows, ReadTells, arranged};
+ghost use Rattle.fb_words.specs.Steps.{after_announce, after_settle, after_withdraw, after_read, after_write, IsNextTable, CarriesAtGive, after_give, with_step, AllHere, Knows, ReadTells, IsBetweenTurns, arranged};
+ghost use Rattle.fb_words.specs.Clips.{EachKeepsClips};
 
 use crate::plays::{Announces, Entry, Gives, Reads, Settles, Withdraws, Writes};
 use crate::screen::Screen;
@@ -31,12 +32,14 @@ impl Screen {
         found
     }
 
-    /// Opens the turn where no painter is in, or refused and not back yet; else the answer is the word that it found. Where
-    /// all admitted clients sit, it opens the turn, and all closed turns are known.
+    /// Opens the turn where no painter is in, or refused and not back yet; else the answer is the word that it found. A turn
+    /// opens with an empty log, and with the last closed table as its present one. Where all admitted clients sit, the turn is
+    /// opened, and all closed turns are known.
     pub fn settle(&self, head: &mut Head) -> Result<(), u64>
         requires screen { head.old.screen ≡ self.now }
         requires closing { head.old.server.mode ≡ Closing }
         ensures head { MatchResult result (λ _. head.new ≡ record head.old { server = after_settle head.old.server 4294967296 }) (λ n. (n ≡ 4294967296 → ⊥) × (head.new ≡ record head.old { server = after_settle head.old.server n })) }
+        ensures between { IsBetweenTurns head.new.server }
         ensures free { MatchResult result (λ _. Unit {0}) (λ n. AllHere head.old.server head.old.sitting → ⊥) }
         ensures known { AllHere head.old.server head.old.sitting → Knows head.old.server (arranged (length head.old.server.limits) head.old.sitting) }
     {
@@ -100,11 +103,12 @@ impl Screen {
         self.table
             .shared
             .fetch_sub::<Gives<E>>(&mut head.seat, 0, CLOSED);
+        head.seen[entry.client as usize] = entry.number;
     }
 
     /// Closes the turn with its entry, which has the next number. Its client sits with the head, and has the step among its
-    /// own calls. The present table has the next number too, and follows the last closed one;
-    /// the turn's log carries the step from that one to it.
+    /// own calls, and its number as what it has seen. The present table has the next number too, and follows the last closed
+    /// one; the turn's log carries the step from that one to it. Kept clips stay.
     pub fn give(&self, head: &mut Head, entry: &JournalEntry)
         requires screen { head.old.screen ≡ self.now }
         requires writing { head.old.server.mode ≡ Writing }
@@ -112,7 +116,8 @@ impl Screen {
         requires sits { 1 ≤ total (is_client entry.now.client) head.old.sitting }
         requires table { IsNextTable head.old.server }
         requires carries { CarriesAtGive head.old.server entry.now }
-        ensures { head.new ≡ record head.old { server = after_give head.old.server entry.now; sitting = map (with_step entry.now) head.old.sitting } }
+        ensures head { head.new ≡ record head.old { server = after_give head.old.server entry.now; sitting = map (with_step entry.now) head.old.sitting } }
+        ensures kept { EachKeepsClips head.old.sitting head.new.sitting }
     {
         self.give_as::<Brand>(head, entry);
     }

@@ -8,6 +8,7 @@ use std::marker::Model;
 #[derive(Drop)]
 pub struct Pass {
     pub(crate) book: Book,
+    pub(crate) seen: u64,
     pub(crate) seat: Seat<(), View>,
 }
 
@@ -19,7 +20,7 @@ impl Model for Pass {
 
     ghost view = { λ p. record { screen = record { table = p.seat.table_id; setting = (only p.seat.me.0.clients).setting }; client = only p.seat.me.0.clients; book_limit = p.book.limit } };
 
-    ghost invariant = { λ p. (p.seat.me ≡ (alone (only p.seat.me.0.clients), [])) × (p.book.client ≡ (only p.seat.me.0.clients).number) × (p.book.entries ≡ books_in (only p.seat.me.0.clients).own) };
+    ghost invariant = { λ p. (p.seat.me ≡ (alone (only p.seat.me.0.clients), [])) × (p.book.client ≡ (only p.seat.me.0.clients).number) × (p.book.entries ≡ books_in (only p.seat.me.0.clients).own) × (p.seen ≡ (only p.seat.me.0.clients).seen) };
 }
 
 /// The server's token. Contracts see its screen, its part, and the clients that sit with it.
@@ -27,18 +28,20 @@ impl Model for Pass {
 pub struct Head {
     pub(crate) admitted: u32,
     pub(crate) closing: bool,
+    // What the clients that sit have seen, by their numbers.
+    pub(crate) seen: [u64; 16],
     pub(crate) seat: Seat<(), View>,
 }
 
 impl Model for Head {
     ghost use Rattle.std.specs.Prelude.{◌≡◌, [], length};
-    ghost use Rattle.fb_words.specs.Views.{HeadView, head_view, the_server, total, busy, is_closing};
+    ghost use Rattle.fb_words.specs.Views.{HeadView, head_view, the_server, total, busy, is_closing, HasSeen};
 
     ghost Value = { HeadView };
 
     ghost view = { λ h. record { screen = record { table = h.seat.table_id; setting = (the_server h.seat.me.0).setting }; server = the_server h.seat.me.0; sitting = h.seat.me.0.clients } };
 
-    ghost invariant = { λ h. (h.seat.me ≡ (head_view (the_server h.seat.me.0) h.seat.me.0.clients, [])) × (length (the_server h.seat.me.0).limits ≡ h.admitted) × (total busy h.seat.me.0.clients ≡ 0) × (h.closing ≡ is_closing (the_server h.seat.me.0).mode) };
+    ghost invariant = { λ h. (h.seat.me ≡ (head_view (the_server h.seat.me.0) h.seat.me.0.clients, [])) × (length (the_server h.seat.me.0).limits ≡ h.admitted) × (total busy h.seat.me.0.clients ≡ 0) × (h.closing ≡ is_closing (the_server h.seat.me.0).mode) × HasSeen h.seen h.seat.me.0.clients };
 }
 
 /// A client that sits with a head. Contracts see its book.
@@ -78,6 +81,14 @@ impl Pass {
         ensures { result ≡ self.now.book_limit }
     {
         self.book.limit()
+    }
+
+    /// The greatest stamp or journal number that it has seen, 0 at first. A paint turn that is closed raises it to its stamp,
+    /// and a server turn that is closed for the client to its number.
+    pub fn seen(&self) -> u64
+        ensures { result ≡ self.now.client.seen }
+    {
+        self.seen
     }
 }
 

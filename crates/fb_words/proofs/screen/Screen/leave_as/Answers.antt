@@ -1,5 +1,4 @@
-use Rattle.fb_words.specs.Clips.{stamp_in}
-use Rattle.std.proofs.Common.{rules, ◌≡◌, Some, sym, ap, ◌∙◌, subst, refl}
+use Rattle.std.proofs.Common.{rules, sym, ap, ◌∙◌, subst, refl}
 use Rattle.fb_words.specs.Views.{PassView, book_entry}
 use Rattle.fb_words.proofs.Looking.{leaves, left_pass, Leaving}
 use Rattle.fb_words.proofs.screen.Screen.leave_as.Goals as goal

@@ -1,6 +1,5 @@
-use Rattle.std.proofs.Common.{◌≡◌, ◌+◌, ◌<◌, sym, ap, ◌∙◌, subst, arith}
+use Rattle.std.proofs.Common.{◌+◌, ◌<◌, sym, ap, ◌∙◌, subst, arith}
 use Rattle.qws_base.specs.Points.{pixel_count}
-use Rattle.qws_base.specs.Colours.{IsSceneColour}
 use Rattle.fb_words.specs.Views.{PassView}
 use Rattle.fb_words.specs.Rights.{Owns}
 use Rattle.fb_words.proofs.Adding.{picks, owns_within}

@@ -1,8 +1,6 @@
-use Rattle.std.proofs.Common.{◌+◌, ◌<◌, ◌≤◌, sym, ap, ◌∙◌, subst, arith}
+use Rattle.std.proofs.Common.{◌+◌, ◌<◌, sym, ap, ◌∙◌, subst, arith}
 use Rattle.qws_base.specs.Points.{pixel_count}
-use Rattle.qws_base.specs.Colours.{IsSceneColour}
-use Rattle.fb_words.specs.Tables.{IsLineWord}
-use Rattle.fb_words.specs.Views.{HeadView, ScreenView}
+use Rattle.fb_words.specs.Views.{ScreenView}
 use Rattle.fb_words.proofs.Serving.{reads_seat}
 use Rattle.fb_words.proofs.screen.Screen.read.Goals as goal
 

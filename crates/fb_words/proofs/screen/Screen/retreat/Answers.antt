@@ -1,5 +1,4 @@
 use Rattle.std.proofs.Common.{rules, sym, ap, ◌∙◌}
-use Rattle.fb_words.specs.Views.{busy_mode}
 use Rattle.fb_words.proofs.Gate.{retreats}
 use Rattle.fb_words.proofs.screen.Screen.retreat.Goals as goal
 

@@ -1,9 +1,8 @@
-use Rattle.std.proofs.Common.{rules, ◌+◌, sym, ap, ◌∙◌}
-use Rattle.atomic_table.specs.Table.{Me}
-use Rattle.fb_words.specs.declared.known.View.{View}
-use Rattle.fb_words.specs.Views.{total, busy, busy_mode}
+use Rattle.std.proofs.Common.{rules, ◌<◌, sym, ap, ◌∙◌, subst}
+use Rattle.fb_words.specs.Views.{busy_mode}
 use Rattle.fb_words.proofs.Sitting.{sits_seat}
-use Rattle.fb_words.proofs.Serving.{tells_seat, joined_is_head, same_seat_sits, joined_head}
+use Rattle.fb_words.proofs.Serving.{tells_seat}
+use Rattle.fb_words.proofs.Heads.{joined_is_head, same_seat_sits, same_seat_knows, joined_head, joined_within}
 use Rattle.fb_words.proofs.screen.Screen.sit.Goals as goal
 
 pub join_seat-requires : goal.join_seat-requires
@@ -25,6 +24,15 @@ load-requires c = (
 pub returns-clause-known : goal.returns-clause-known
 returns-clause-known c = same_seat_sits _ _ c.load.ensures.2.0 c.load.ensures.2.1
 
+pub returns-clause-all : goal.returns-clause-all
+returns-clause-all c = same_seat_knows _ _ c.load.ensures.2.0 c.load.ensures.2.4
+
+pub bounds-head-inside-client : goal.bounds-head-inside-client
+bounds-head-inside-client c = subst (λ n. n < 16) (sym (c.client.ensures ∙ c.pass.invariant.1))
+    (joined_within _ c.head.inside.seat.me c.pass.inside.seat.me.0 c.join_seat.ensures.2 (ap (λ m. m.0) c.pass.invariant.0) c.load.ensures.2.1 c.load.ensures.2.3)
+
 pub invariant_of-head : goal.invariant_of-head
-invariant_of-head c = joined_head _ _ c.head.inside.seat.me c.pass.inside.seat.me.0 _ _ c.load.ensures.2.0 c.join_seat.ensures.2 c.head.invariant
-    (ap (λ (m : Me (Unit {0}) View). total busy m.0.clients) c.pass.invariant.0 ∙ ap (λ m. busy_mode m + 0) (ap (λ h. h.client.mode) c.pass.view_is ∙ c.requires.idle))
+invariant_of-head c = let alone_is = ap (λ m. m.0) c.pass.invariant.0 in let number = c.client.ensures ∙ c.pass.invariant.1 in
+    joined_head _ _ c.head.inside.seat.me c.pass.inside.seat.me.0 _ _ _ _ _ c.load.ensures.2.0 c.join_seat.ensures.2 c.head.invariant (search rules) alone_is
+    (ap (λ m. busy_mode m) (ap (λ h. h.client.mode) c.pass.view_is ∙ c.requires.idle)) number c.pass.invariant.3
+    (subst (λ n. n < 16) (sym number) (joined_within _ c.head.inside.seat.me c.pass.inside.seat.me.0 c.join_seat.ensures.2 alone_is c.load.ensures.2.1 c.load.ensures.2.3)) c.load.ensures.2.2

@@ -1,4 +1,4 @@
-use Rattle.std.proofs.Common.{◌+◌, ◌<◌, ◌≤◌, sym, ap, ◌∙◌, subst, arith}
+use Rattle.std.proofs.Common.{◌+◌, ◌<◌, sym, ap, ◌∙◌, subst, arith}
 use Rattle.qws_base.specs.Points.{pixel_count}
 use Rattle.qws_base.specs.Colours.{IsSceneColour}
 use Rattle.fb_words.specs.Tables.{IsLineWord}
