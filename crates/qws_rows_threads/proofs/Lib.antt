@@ -1,0 +1,4 @@
+pub mod Tables
+pub mod Refused
+pub mod Heads
+pub mod Painters

@@ -1,0 +1,7 @@
+//! Worked rows over the shared words, as tests.
+#![tactic(auto)]
+
+#[cfg(test)]
+mod tokens;
+#[cfg(test)]
+mod turn_rows;
