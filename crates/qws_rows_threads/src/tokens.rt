@@ -8,8 +8,9 @@ ghost use Rattle.qws_base.specs.declared.replies.Refusal.TheVariants.{Empty};
 ghost use Rattle.fb_words.specs.Tables.{opening_table};
 ghost use Rattle.fb_words.specs.Views.{is_writing};
 ghost use Rattle.fb_words.specs.declared.known.ServerMode.TheVariants.{Resting};
+ghost use Rattle.fb_words.specs.declared.known.Mode.TheVariants.{Idle};
 ghost use Rattle.display_lock.specs.Turns.{IsOpenServer, SameServerTurn, turned_away};
-ghost use Rattle.qws_rows_threads.specs.Tokens.{IsPainter, HasPainted, IsUnpainted, IsHead, IsStamped};
+ghost use Rattle.qws_rows_threads.specs.Tokens.{paints, IsPainter, HasPainted, IsUnpainted, IsHead, IsStamped};
 
 use display_lock::{PaintTurn, ServerTurn, try_paint_turn, try_server_turn};
 use fb_words::{Head, Pass, Screen};
@@ -74,7 +75,9 @@ pub fn end_gone(turn: PaintTurn)
 /// Enters and leaves once; else the gate word that shut the painter out.
 pub fn paint(screen: &Screen, pass: &mut Pass) -> Result<(), u64>
     requires painter { IsPainter screen.now 1 pass.old }
-    ensures { MatchResult result (λ _. HasPainted 1 pass.old pass.new) (λ found. pass.new ≡ turned_away pass.old found) }
+    ensures pass { MatchResult result (λ _. HasPainted 1 pass.old pass.new) (λ found. pass.new ≡ turned_away pass.old found) }
+    ensures back { (pass.new.screen ≡ screen.now) × (pass.new.client.mode ≡ Idle) × (pass.new.book_limit ≡ pass.old.book_limit) }
+    ensures count { paints pass.new ≤ paints pass.old + 1 }
 {
     match try_paint_turn(pass, screen) {
         Ok(turn) => {
