@@ -11,13 +11,14 @@ use Rattle.qws_base.specs.declared.journals.JournalEntry.{JournalEntry}
 use Rattle.fb_words.specs.declared.known.Client.{Client}
 use Rattle.fb_words.specs.declared.known.Server.{Server}
 use Rattle.fb_words.specs.declared.known.Item.{Item}
-use Rattle.fb_words.specs.Tables.{first_pixel, opening_table, IsTable, Follows, table_of}
+use Rattle.fb_words.specs.declared.known.Item.TheVariants.{Pick}
+use Rattle.fb_words.specs.Tables.{first_pixel, is_table_word, opening_table, IsTable, Follows, table_of}
 use Rattle.fb_words.specs.Views.{ScreenView, HeadView, total, is_client, opening_server}
-use Rattle.fb_words.specs.Steps.{IsNextTable, CarriesAtGive, with_step, stepped, closed_turn, after_give, with_limit}
+use Rattle.fb_words.specs.Steps.{IsNextTable, CarriesAtGive, with_step, stepped, closed_turn, after_give, with_limit, after_read}
 use Rattle.fb_words.proofs.Opening.{length-opening, first_table}
 use Rattle.qws_rows_threads.specs.Tokens.{OnlyPicks, IsReadyIn, IsReady, IsHead, with_stamp, IsStamped}
 use Rattle.qws_rows_threads.proofs.Tables.{table_like, follows_like, follows_itself, same_cursor, stamped}
-use Rattle.qws_rows_threads.proofs.Refused.{refused_carried}
+use Rattle.qws_rows_threads.proofs.Refused.{refused_carried, one_pick}
 
 at_last : {A : Type 0} (l : List A) (a : A) (n : ℕ) → length l ≡ n → get_elem? (l ++ a ∷ []) n ≡ some a
 at_last [] a zero e = refl
@@ -113,3 +114,23 @@ module _ (screen : ScreenView) (setting : Setting) (h h1 h2 h3 h4 : HeadView) (a
       let here : p.number ≡ 2 = number ∙ ap (λ (x : HeadView). length x.server.limits) two in
       let sits : is_client 2 p ≡ 1 = ap (λ n. if n == 2 then 1 else 0) here in
       subst (IsHead screen 1) (sym all) (refl, refl, omega arith, ready_first setting.size 3 sides)
+
+-- a read of one word more
+pub read_more : (s : Server) (x v : ℕ) → IsReady s → IsReady (after_read s x v)
+read_more s x v ready = go (is_table_word x)
+  where
+    go : (b : Bool) → IsReadyIn s.setting.size (length s.limits) (length s.closed) s.tables s.present (if b then s.log else s.log ++ Pick x v ∷ [])
+    go true = ready
+    go false = record {
+      long = ready.long;
+      wide = ready.wide;
+      before = ready.before;
+      last = ready.last;
+      is_table = ready.is_table;
+      follows = ready.follows;
+      cursor = ready.cursor;
+      unput = one_pick s.log x v ready.unput;
+    }
+
+pub read_head : (screen : ScreenView) (number : ℕ) (h after : HeadView) (x v : ℕ) → after ≡ record h { server = after_read h.server x v } → IsHead screen number h → IsHead screen number after
+read_head screen number h after x v is ok = subst (IsHead screen number) (sym is) (ok.0, ok.1, ok.2, read_more h.server x v ok.3)

@@ -52,17 +52,17 @@ same_cursor size t u same is =
 
 -- ---- the next stamp
 
-cursor_like : (size : Sides) (t u : List ℕ) → SameButStamp t u → IsCursorIn size t → IsCursorIn size u
+pub cursor_like : (size : Sides) (t u : List ℕ) → SameCursor t u → IsCursorIn size t → IsCursorIn size u
 cursor_like size t u same is =
-    let two = same 2 (omega arith) in
-    let three = same 3 (omega arith) in record {
+    let two = same 2 (omega arith) (omega arith) in
+    let three = same 3 (omega arith) (omega arith) in record {
       in_columns = subst (λ v. v % 65536 < size.w) two is.in_columns;
       in_rows = subst (λ v. v / 65536 % 65536 < size.h) two is.in_rows;
       shown = subst (λ v. v / 4294967296 ≤ 1) two is.shown;
       sides = subst (λ v. ((1 ≤ v % 65536) × (1 ≤ v / 65536)) ⊎ ((v % 65536 ≡ 0) × (v / 65536 ≡ 0))) three is.sides;
       few_columns = subst (λ v. v % 65536 ≤ 32) three is.few_columns;
       few_rows = subst (λ v. v / 65536 ≤ 32) three is.few_rows;
-      cells = λ i lo hi. subst (λ v. v < 4294967296) (same i (omega arith)) (is.cells i lo hi);
+      cells = λ i lo hi. subst (λ v. v < 4294967296) (same i (omega arith) hi) (is.cells i lo hi);
     }
 
 row_like : (size : Sides) (t u : List ℕ) (s j p : ℕ) → SameButStamp t u → RowHas size u s j p → RowHas size t s j p
@@ -85,7 +85,7 @@ table_like size a b n m t u more stamp same is = record {
   owners = λ s lt. let e = same (row_word s) (omega arith) in let o = is.owners s lt in omega arith;
   unowned = λ s lt none. let c = is.unowned s lt (same (row_word s) (omega arith) ∙ none) in sym (same (row_word s + 3) (omega arith)) ∙ c;
   origins = λ s lt. subst (λ v. IsPlaced (origin_from v)) (same (row_word s + 2) (omega arith)) (is.origins s lt);
-  cursor = cursor_like size t u same is.cursor;
+  cursor = cursor_like size t u (λ i low high. same i low) is.cursor;
 }
 
 pub follows_like : (before t u : List ℕ) → SameButStamp t u → Follows before t → Follows before u

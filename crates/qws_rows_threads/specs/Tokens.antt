@@ -66,3 +66,7 @@ pub record IsStamped (screen : ScreenView) (number : ℕ) (h : HeadView) : Type 
   pub before : HeadView
   pub is_head : IsHead screen number before
   pub stamp : h ≡ record before { server = with_stamp before.server number }
+
+-- The table with a row for slot 0: owner 0, revision 2, origin (-2, 3), and the rectangle of 2 by 1 pixels at (1, 0).
+abbrev pub with_row : List ℕ → List ℕ
+with_row t = slice_set (slice_set (slice_set (slice_set (slice_set t 2052 1) 2053 2) 2054 2147713022) 2055 1) 2056 281483566645249

@@ -2,6 +2,10 @@
 #![tactic(auto)]
 
 #[cfg(test)]
+mod thread_rows;
+#[cfg(test)]
 mod tokens;
 #[cfg(test)]
 mod turn_rows;
+#[cfg(test)]
+mod word_rows;

@@ -1,15 +1,17 @@
 //! A screen with two painters, and the shortest turns that they and the server can make.
-ghost use Rattle.std.specs.Prelude.{◌≡◌, ◌+◌, ◌≤◌, IfOk, MatchResult, false, true};
+ghost use Rattle.std.specs.Prelude.{◌≡◌, ℕ, ◌+◌, ◌<◌, ◌≤◌, length, IfOk, MatchResult, false, true};
 ghost use Rattle.qws_base.specs.Sides.{IsScreen};
 ghost use Rattle.qws_base.specs.States.{is_refused};
 ghost use Rattle.qws_base.specs.declared.commands.Command.TheVariants.{Take};
 ghost use Rattle.qws_base.specs.declared.replies.Reply.TheVariants.{Refused};
 ghost use Rattle.qws_base.specs.declared.replies.Refusal.TheVariants.{Empty};
-ghost use Rattle.fb_words.specs.Tables.{opening_table};
+ghost use Rattle.qws_base.specs.Points.{pixel_count};
+ghost use Rattle.region_table.specs.Numbers.{IsTableWord};
+ghost use Rattle.fb_words.specs.Tables.{opening_table, first_pixel};
 ghost use Rattle.fb_words.specs.Views.{is_writing};
 ghost use Rattle.fb_words.specs.declared.known.ServerMode.TheVariants.{Resting};
 ghost use Rattle.fb_words.specs.declared.known.Mode.TheVariants.{Idle};
-ghost use Rattle.display_lock.specs.Turns.{IsOpenServer, SameServerTurn, turned_away};
+ghost use Rattle.display_lock.specs.Turns.{SameTurn, IsOpenServer, SameServerTurn, turned_away};
 ghost use Rattle.qws_rows_threads.specs.Tokens.{paints, IsPainter, HasPainted, IsUnpainted, IsHead, IsStamped};
 
 use display_lock::{PaintTurn, ServerTurn, try_paint_turn, try_server_turn};
@@ -19,6 +21,7 @@ use qws_base::{
     BookEntry, Command, Depth, Ink, JournalEntry, OutOfMemory, PaintReply, Rect, Refusal, Reply,
     Rgb, Size,
 };
+use region_table::row_at;
 use std::alloc::Global;
 
 // A slot past the last, in which no client has a window.
@@ -40,6 +43,8 @@ pub fn session(
     requires size { IsScreen size }
     ensures head { IfOk result (λ made. IsHead made.0 1 made.1) }
     ensures resting { IfOk result (λ made. made.1.server.mode ≡ Resting) }
+    ensures size { IfOk result (λ made. (made.0.setting.size ≡ size) × (made.1.server.setting.size ≡ size)) }
+    ensures clients { IfOk result (λ made. length made.1.server.limits ≡ 3) }
     ensures opening { IfOk result (λ made. made.1.server.present ≡ opening_table) }
     ensures first { IfOk result (λ made. IsPainter made.0 paints made.2) }
     ensures second { IfOk result (λ made. IsPainter made.0 paints made.3) }
@@ -150,4 +155,46 @@ pub fn serve(screen: &Screen, head: &mut Head, number: u64) -> Result<(), u64>
         }
         Err(busy) => Err(busy.found),
     }
+}
+
+/// Reads a word in the server's turn.
+pub fn read(turn: &mut ServerTurn, word: u64) -> u64
+    requires open { IsOpenServer turn.old }
+    requires word { (1 ≤ word) × (word < first_pixel + pixel_count turn.old.screen.now.setting.size) }
+    ensures same { SameServerTurn turn.old turn.new }
+    ensures open { IsOpenServer turn.new }
+    ensures head { (number : ℕ) → IsHead turn.old.screen.now number turn.old.head.now → IsHead turn.new.screen.now number turn.new.head.now }
+{
+    turn.read(word)
+}
+
+/// Looks at a table word in a painter's turn.
+pub fn look(turn: &mut PaintTurn, word: u64) -> u64
+    requires unpainted { IsUnpainted turn.old }
+    requires table { IsTableWord word }
+    ensures same { SameTurn turn.old turn.new }
+    ensures unpainted { IsUnpainted turn.new }
+    ensures paints { paints turn.new.pass.now ≡ paints turn.old.pass.now }
+{
+    turn.look(word)
+}
+
+/// In the first server turn, writes the row of slot 0: it is client 0's, with revision 2, origin (-2, 3) and the rectangle
+/// of two columns and one row at (1, 0).
+pub fn write_row(turn: &mut ServerTurn)
+    requires open { IsOpenServer turn.old }
+    requires head { IsHead turn.old.screen.now 1 turn.old.head.now }
+    requires opening { turn.old.head.now.server.present ≡ opening_table }
+    requires clients { 1 ≤ length turn.old.head.now.server.limits }
+    requires size { turn.old.head.now.server.setting.size ≡ record { w = 4; h = 2 } }
+    ensures same { SameServerTurn turn.old turn.new }
+    ensures open { IsOpenServer turn.new }
+    ensures head { IsHead turn.new.screen.now 1 turn.new.head.now }
+{
+    let row = row_at(0);
+    turn.write(row, 1);
+    turn.write(row + 1, 2);
+    turn.write(row + 2, 0x8003_7ffe);
+    turn.write(row + 3, 1);
+    turn.write(row + 4, 0x0001_0002_0000_0001);
 }
