@@ -10,13 +10,12 @@ use Rattle.qws_base.specs.Scenes.{Setting}
 use Rattle.qws_base.specs.declared.journals.JournalEntry.{JournalEntry}
 use Rattle.fb_words.specs.declared.known.Client.{Client}
 use Rattle.fb_words.specs.declared.known.Server.{Server}
-use Rattle.fb_words.specs.declared.known.Item.{Item}
 use Rattle.fb_words.specs.declared.known.Item.TheVariants.{Pick}
-use Rattle.fb_words.specs.Tables.{first_pixel, is_table_word, opening_table, IsTable, Follows, table_of}
+use Rattle.fb_words.specs.Tables.{is_table_word, opening_table, IsTable, Follows, table_of}
 use Rattle.fb_words.specs.Views.{ScreenView, HeadView, total, is_client, opening_server}
 use Rattle.fb_words.specs.Steps.{IsNextTable, CarriesAtGive, with_step, stepped, closed_turn, after_give, with_limit, after_read}
 use Rattle.fb_words.proofs.Opening.{length-opening, first_table}
-use Rattle.qws_rows_threads.specs.Tokens.{OnlyPicks, IsReadyIn, IsReady, IsHead, with_stamp, IsStamped}
+use Rattle.qws_rows_threads.specs.Tokens.{IsReadyIn, IsReady, IsHead, with_stamp, IsStamped}
 use Rattle.qws_rows_threads.proofs.Tables.{table_like, follows_like, follows_itself, same_cursor, stamped}
 use Rattle.qws_rows_threads.proofs.Refused.{refused_carried, one_pick}
 

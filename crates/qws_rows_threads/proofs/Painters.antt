@@ -4,7 +4,6 @@ use Rattle.std.specs.Prelude.{slice_index}
 use Rattle.std.specs.List.{range_with_len}
 use Rattle.std.proofs.lemmas.List.{get_or_past}
 use Rattle.std.proofs.lemmas.List.FromFn.{length-map-range_with_len}
-use Rattle.qws_base.specs.Points.{pixel_count}
 use Rattle.qws_base.specs.Windows.{owns}
 use Rattle.qws_base.specs.Sheets.{Sheet}
 use Rattle.qws_base.specs.Scenes.{Setting, inked}
@@ -24,7 +23,7 @@ use Rattle.fb_words.specs.Steps.{looked_mode, after_leave}
 use Rattle.fb_words.specs.Carries.{CarriesPaintUnder, RepliesUnder}
 use Rattle.fb_words.proofs.Serving.{books_more}
 use Rattle.fb_words.proofs.Standing.{gone_carried}
-use Rattle.qws_rows_threads.specs.Tokens.{paints, HasPainted}
+use Rattle.qws_rows_threads.specs.Tokens.{HasPainted}
 
 no_window : (t : List ℕ) (slot : ℕ) → 33 ≤ slot → row_of (table_of t) slot ≡ no_row
 unfolding rows_from

@@ -1,5 +1,5 @@
 -- The opening table with one row written.
-use Rattle.std.proofs.Common.{◌≡◌, ◌≢◌, ℕ, zero, suc, ◌+◌, ◌*◌, ◌<◌, ◌≤◌, ◌⊎◌, ⊎_elim, inl, inr, List, length, get_or, set, refl, sym, ap, ◌∙◌, subst, arith}
+use Rattle.std.proofs.Common.{◌≡◌, ◌≢◌, ℕ, zero, suc, ◌+◌, ◌*◌, ◌<◌, ◌≤◌, ⊎_elim, inl, inr, List, length, set, refl, sym, ap, ◌∙◌, subst, arith}
 use Rattle.std.specs.Prelude.{slice_index}
 use Rattle.std.proofs.lemmas.Int.{ints}
 use Rattle.std.proofs.lemmas.List.{length-set, get_or-set_same, get_or-set_other}
@@ -9,7 +9,7 @@ use Rattle.region_table.specs.Packing.{unpacked}
 use Rattle.region_table.specs.Tables.{origin_from}
 use Rattle.region_table.specs.Opening.{opening_row_word}
 use Rattle.fb_words.specs.declared.known.Item.{Item}
-use Rattle.fb_words.specs.Tables.{opening_table, owner_in, revision_in, origin_in, count_in, rect_in, IsOnScreen, RowHas, IsTable, SameRow, Follows}
+use Rattle.fb_words.specs.Tables.{opening_table, owner_in, revision_in, origin_in, count_in, rect_in, IsOnScreen, IsTable, SameRow, Follows}
 use Rattle.fb_words.specs.Views.{ScreenView, HeadView}
 use Rattle.fb_words.specs.Steps.{after_write}
 use Rattle.fb_words.proofs.Opening.{length-opening, at_row}

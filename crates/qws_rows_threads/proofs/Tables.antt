@@ -1,9 +1,9 @@
 -- Table words of which only the stamp, or words past the cursor's, are others.
-use Rattle.std.proofs.Common.{◌≡◌, ◌≢◌, ℕ, zero, suc, ◌+◌, ◌*◌, ◌/◌, ◌%◌, ◌<◌, ◌≤◌, ◌==◌, ◌⊎◌, ⊎_elim, inl, inr, List, map, length, get_or, set, refl, sym, ap, ◌∙◌, subst, arith}
+use Rattle.std.proofs.Common.{◌≡◌, ℕ, zero, suc, ◌+◌, ◌*◌, ◌/◌, ◌%◌, ◌<◌, ◌≤◌, ◌==◌, ◌⊎◌, ⊎_elim, inl, inr, List, map, set, refl, sym, ap, ◌∙◌, subst, arith}
 use Rattle.std.specs.Prelude.{slice_index}
 use Rattle.std.specs.List.{range_with_len}
 use Rattle.std.proofs.Math.Nat.{div-lt_iff_lt-mul, mod-lt}
-use Rattle.std.proofs.lemmas.List.{get_or-set_same, get_or-set_other}
+use Rattle.std.proofs.lemmas.List.{get_or-set_other}
 use Rattle.std.proofs.lemmas.List.FromFn.{length-map-range_with_len, get_or-map-range_with_len, fill_by_all}
 use Rattle.qws_base.specs.Sides.{Sides}
 use Rattle.qws_base.specs.Points.{IsPlaced}
@@ -11,7 +11,7 @@ use Rattle.qws_base.specs.declared.windows.Cursor.{Cursor}
 use Rattle.region_table.specs.Numbers.{row_word, cell_word}
 use Rattle.region_table.specs.Packing.{unpacked}
 use Rattle.region_table.specs.Tables.{origin_from, cells_from}
-use Rattle.fb_words.specs.Tables.{table_of, revision_in, count_in, rect_in, RectHas, RowHas, IsOnScreen, IsCursorIn, IsTable, SameRow, Follows}
+use Rattle.fb_words.specs.Tables.{table_of, revision_in, RectHas, RowHas, IsOnScreen, IsCursorIn, IsTable, SameRow, Follows}
 
 -- the same words but for the stamp
 abbrev pub SameButStamp : List ℕ → List ℕ → Type 0

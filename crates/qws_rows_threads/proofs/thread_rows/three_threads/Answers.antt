@@ -4,5 +4,5 @@ use Rattle.qws_rows_threads.proofs.thread_rows.three_threads.Goals as goal
 
 pub stamp-requires-clause-head : goal.stamp-requires-clause-head
 stamp-requires-clause-head g c =
-    let served : IsHead c.in-Ok.turn.screen.now 5001 c.in-Ok.turn.head.now = search rules in
-    c.read-closed.ensures.head 5001 served
+    let served : IsHead c.in-Ok.turn.screen.now 50001 c.in-Ok.turn.head.now = search rules in
+    c.read-closed.ensures.head 50001 served

@@ -1,4 +1,4 @@
-use Rattle.std.proofs.Common.{ap, ◌∙◌}
+use Rattle.std.proofs.Common.{ap}
 use Rattle.fb_words.specs.Views.{PassView}
 use Rattle.qws_rows_threads.proofs.Heads.{first_head}
 use Rattle.qws_rows_threads.proofs.tokens.session.Goals as goal

@@ -1,4 +1,4 @@
-use Rattle.std.proofs.Common.{rules, subst, sym}
+use Rattle.std.proofs.Common.{subst, sym}
 use Rattle.qws_rows_threads.specs.Tokens.{IsStamped}
 use Rattle.qws_rows_threads.proofs.tokens.stamp.Goals as goal
 

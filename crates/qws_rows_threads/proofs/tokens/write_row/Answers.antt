@@ -1,4 +1,4 @@
-use Rattle.std.proofs.Common.{◌≡◌, ◌∙◌, subst, sym}
+use Rattle.std.proofs.Common.{◌∙◌, subst, sym}
 use Rattle.qws_rows_threads.specs.Tokens.{IsHead}
 use Rattle.qws_rows_threads.proofs.Rows.{row_written}
 use Rattle.qws_rows_threads.proofs.tokens.write_row.Goals as goal
