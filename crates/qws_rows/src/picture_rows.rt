@@ -1,5 +1,8 @@
 //! Pictures: what images, fonts and texts answer, and where they paint.
 use gfx_fills::{Blit, Fill, Image, ImageStop, Tile};
+use gfx_lines::{Line, Polyline};
+use gfx_painters::Paint;
+use gfx_polygons::Polygon;
 use glyph_masks::{Font, GlyphStop, RunStop, TextRun};
 use qws_base::{Ink, Picture, Point, Rect, Rgb};
 use std::test::Fail;
@@ -88,5 +91,64 @@ fn text_of_one_glyph(rt: HostRuntime) -> Result<(), Fail> {
     assert!(rt; out == [ink, ink, ink]);
     text.row(2, 0, &mut out);
     assert!(rt; out == [ink, Ink::Skip, ink]);
+    Ok(())
+}
+
+// How an ink found shows beside the one that was painted.
+fn mark(found: Ink, painted: &Ink) -> u8 {
+    if found == *painted {
+        b'#'
+    } else if found == Ink::Skip {
+        b'.'
+    } else {
+        b'?'
+    }
+}
+
+// Where row 0 of a paint has an ink, from column -1 to column 2.
+fn marks(paint: &Paint<'_>, ink: &Ink) -> [u8; 4] {
+    let mut inks = [Ink::Skip; 4];
+    paint.row(0, -1, &mut inks);
+    inks.map(|found| mark(found, ink))
+}
+
+#[test]
+fn paints_of_rectangles(rt: HostRuntime) -> Result<(), Fail> {
+    let c = Rgb::new(1).ok_or("a colour")?;
+    let image = Image::new(rt.alloc(), 2, 1, &[0xff00_0001, 0x0000_0002])?;
+    let ink = Ink::And { c };
+    let fill = Fill::new(LINE, Ink::And { c });
+    assert_eq!(rt; marks(&Paint::Fill { fill }, &ink), *b".###");
+    let tile = Tile::new(LINE, &image);
+    let ink = Ink::Blend { c, a: 255 };
+    assert_eq!(rt; marks(&Paint::Tile { tile }, &ink), *b".#.#");
+    let blit = Blit::new(CORNER, &image, 128);
+    let ink = Ink::Blend { c, a: 128 };
+    assert_eq!(rt; marks(&Paint::Blit { blit }, &ink), *b".#..");
+    Ok(())
+}
+
+const RING: [Point; 4] = [
+    Point { x: 0, y: 0 },
+    Point { x: 2, y: 0 },
+    Point { x: 2, y: 2 },
+    Point { x: 0, y: 2 },
+];
+
+#[test]
+fn paints_of_points(rt: HostRuntime) -> Result<(), Fail> {
+    let c = Rgb::new(1).ok_or("a colour")?;
+    let ink = Ink::Copy { c };
+    let line = Line::new(CORNER, Point { x: 2, y: 1 }, c);
+    assert_eq!(rt; marks(&Paint::Line { line }, &ink), *b".#..");
+    let polyline = Polyline::new(rt.alloc(), &RING, c)?;
+    assert_eq!(rt; marks(&Paint::Polyline { polyline }, &ink), *b".###");
+    let ink = Ink::Or { c };
+    let polygon = Polygon::new(rt.alloc(), &RING, ink)?;
+    assert_eq!(rt; marks(&Paint::Polygon { polygon }, &ink), *b".##.");
+    let mut font = Font::new(rt.alloc(), 3);
+    font.add(65, 3, &[2, 7, 5])?;
+    let text = TextRun::new(rt.alloc(), &font, CORNER, &[65], ink)?;
+    assert_eq!(rt; marks(&Paint::Text { text }, &ink), *b"..#.");
     Ok(())
 }

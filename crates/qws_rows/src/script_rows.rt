@@ -1,6 +1,9 @@
 //! Scripts: which bytes are one, what they say, and what their calls mean.
-use qws_base::Depth;
-use session_script::{Script, ScriptStop};
+ghost use Rattle.std.specs.Prelude.{◌≡◌, length, IsTrue};
+ghost use Rattle.session_script.specs.Session.{lines_by};
+
+use qws_base::{Depth, OutOfMemory, Refusal, Reply};
+use session_script::{Call, Names, Script, ScriptStop};
 use std::alloc::Global;
 
 const EMPTY: &[u8] = b"screen 2 1 102030\nclients 0\nend\n";
@@ -127,5 +130,40 @@ fn what_a_script_says(rt: HostRuntime) -> Result<(), ScriptStop> {
     assert_eq!(rt; (script.steps(0), script.paints(0)), (2, 1));
     assert_eq!(rt; (script.steps(1), script.paints(1)), (0, 0));
     assert_eq!(rt; script.calls(), 3);
+    Ok(())
+}
+
+const NAMING: &[u8] =
+    b"screen 1 1 ffffff\nclients 1\n0 create a 0\n0 fill a 0 0 1 1 copy ffffff\nend\n";
+
+// Whether client 0 gives one command and paints once.
+fn has_two_calls(script: &Script) -> bool
+    ensures { IsTrue result → length (lines_by script.now 0) ≡ 2 }
+{
+    script.steps(0) == 1 && script.paints(0) == 1
+}
+
+// The slot in which client 0 paints by its second call, after a reply to its first one.
+fn painted_slot(alloc: Global, script: &Script, reply: &Reply) -> Result<Option<u32>, OutOfMemory>
+    requires { length (lines_by script.now 0) ≡ 2 }
+{
+    let mut names = Names::new(alloc, 0)?;
+    names.learn(alloc, script, 0, reply)?;
+    match names.call(alloc, script, 1)? {
+        Call::Paint { slot, paint: _ } => Ok(Some(slot)),
+        Call::Step { command: _ } => Ok(None),
+    }
+}
+
+#[test]
+fn names_after_replies(rt: HostRuntime) -> Result<(), ScriptStop> {
+    let script = Script::read(rt.alloc(), NAMING)?;
+    assert!(rt; has_two_calls(&script));
+    let refused = Reply::Refused {
+        cause: Refusal::NoSlot,
+    };
+    assert_eq!(rt; painted_slot(rt.alloc(), &script, &refused)?, Some(32));
+    let created = Reply::Created { slot: 5 };
+    assert_eq!(rt; painted_slot(rt.alloc(), &script, &created)?, Some(5));
     Ok(())
 }
