@@ -1,10 +1,9 @@
 -- The entries of the map as channels: what a look-up finds, and what a write and a new key leave.
-use Rattle.std.proofs.Common.{◌≡◌, ℕ, ◌++◌, [], ◌∷◌, List, Bool, true, false, ◌||◌, not, cond, if◌then◌else◌, map, length, eqb, nat_le, Option, Some, None, is_some, refl, sym, ap, ◌∙◌, arith}
-use Rattle.std.specs.List.{find, IsDistinct, AllByRecursion, AllZip}
+use Rattle.std.proofs.Common.{◌≡◌, ℕ, zero, suc, take, slice_get, subst, ◌++◌, [], ◌∷◌, List, Bool, true, false, ◌||◌, not, cond, if◌then◌else◌, map, length, eqb, nat_le, Option, Some, None, is_some, refl, sym, ap, ◌∙◌, arith}
+use Rattle.std.specs.List.{find, IsDistinct, AllByRecursion}
 use Rattle.std.specs.Option.{option_map_or}
 use Rattle.std.specs.Map.{keys_of, lookup, set_value}
 use Rattle.std.specs.Str.{bytes_eq}
-use Rattle.std.specs.Vec.{vec_len}
 use Rattle.std.specs.declared.vec.Vec.{Vec}
 use Rattle.std.proofs.lemmas.Map.Keys.{IsDistinct-head, IsDistinct-tail}
 use Rattle.std.proofs.lemmas.Bool.Decides.{nat_tests}
@@ -159,25 +158,25 @@ module _ (channels : List Channel) (client : ℕ) (name : List ℕ) where
   pub channels_joined_unknown : is_known channels name ≡ false → channels_joined channels client name ≡ channels ++ record { name = name; subscribers = client ∷ [] } ∷ []
   channels_joined_unknown known = rw known refl
 
-equal_items : (xs ys : List ℕ) → AllZip (λ (x y : ℕ). y ≡ x) xs ys → ys ≡ xs
-equal_items [] [] h = refl
-equal_items [] (y ∷ ys) h = absurd h
-equal_items (x ∷ xs) [] h = absurd h
-equal_items (x ∷ xs) (y ∷ ys) h = let head = h.0 in let tail = equal_items xs ys h.1 in cc
-
-abbrev Cloned : {A : Type 0} → Vec ℕ A → Vec ℕ A → Type 0
-Cloned v w = AllZip (λ (x y : ℕ). y ≡ x) v.items w.items × (vec_len w ≡ vec_len v)
-
 module _ {Y Z : Type 0} where
-  -- clones show the same channels
-  pub channels_of-clones : (entries copies : List (Vec ℕ Y × Vec ℕ Z)) → AllZip (λ (p q : Vec ℕ Y × Vec ℕ Z). Cloned p.0 q.0 × Cloned p.1 q.1) entries copies → channels_of copies ≡ channels_of entries
-  channels_of-clones [] [] h = refl
-  channels_of-clones [] (q ∷ qs) h = absurd h
-  channels_of-clones (p ∷ ps) [] h = absurd h
-  channels_of-clones (p ∷ ps) (q ∷ qs) h =
-      let name : q.0.items ≡ p.0.items = equal_items p.0.items q.0.items h.0.0.0 in
-      let subscribers : q.1.items ≡ p.1.items = equal_items p.1.items q.1.items h.0.1.0 in
-      let rest = channels_of-clones ps qs h.1 in
-      ap (λ (n : List ℕ). record { name = n; subscribers = q.1.items } ∷ channels_of qs) name
-      ∙ ap (λ (s : List ℕ). record { name = p.0.items; subscribers = s } ∷ channels_of qs) subscribers
-      ∙ ap (λ (cs : List Channel). channel_of p ∷ cs) rest
+  -- what holds of each key, at a place
+  at_place : (P : Vec ℕ Y → Type 0) (es : List (Vec ℕ Y × Vec ℕ Z)) (i : ℕ) (key : Vec ℕ Y) (v : Vec ℕ Z) → AllByRecursion P (keys_of es) → slice_get es i ≡ Some (key, v) → P key
+  at_place P [] i key v all h = cc
+  at_place P (e ∷ es) zero key v all h = let here : e ≡ (key, v) = cc in subst P (ap (λ (p : Vec ℕ Y × Vec ℕ Z). p.0) here) all.0
+  at_place P (e ∷ es) (suc i) key v all h = at_place P es i key v all.1 h
+
+  -- a channel isn't known before its place
+  pub unknown_before : (es : List (Vec ℕ Y × Vec ℕ Z)) (i : ℕ) (key : Vec ℕ Y) (v : Vec ℕ Z) → IsDistinct (λ (x y : Vec ℕ Y). bytes_eq x.items y.items) (keys_of es) → slice_get es i ≡ Some (key, v)
+      → is_known (take i (channels_of es)) key.items ≡ false
+  unknown_before es zero key v distinct h = refl
+  unknown_before [] (suc i) key v distinct h = refl
+  unknown_before (e ∷ es) (suc i) key v distinct h =
+      let apart = at_place (λ (y : Vec ℕ Y). bytes_eq e.0.items y.items ≡ false) es i key v (IsDistinct-head _ e.0 (keys_of es) distinct) h in
+      let rest = unknown_before es i key v (IsDistinct-tail _ e.0 (keys_of es) distinct) h in
+      ap (λ (b : Bool). b || is_known (take i (channels_of es)) key.items) apart ∙ rest
+
+  -- the channels up to a place, and the one there
+  pub channels_to : (es : List (Vec ℕ Y × Vec ℕ Z)) (i : ℕ) (key : Vec ℕ Y) (v : Vec ℕ Z) → slice_get es i ≡ Some (key, v) → take (suc i) (channels_of es) ≡ take i (channels_of es) ++ channel_of (key, v) ∷ []
+  channels_to [] i key v h = cc
+  channels_to (e ∷ es) zero key v h = let here : e ≡ (key, v) = cc in ap (λ (p : Vec ℕ Y × Vec ℕ Z). channel_of p ∷ []) here
+  channels_to (e ∷ es) (suc i) key v h = ap (λ (cs : List Channel). channel_of e ∷ cs) (channels_to es i key v h)

@@ -51,7 +51,7 @@ impl Channels {
     pub fn copy(&self, alloc: Global) -> Result<Self, OutOfMemory>
         ensures { IfOk result (λ copy. copy ≡ self.now) }
     {
-        let known = subscriptions::copy(&self.known)?;
+        let known = subscriptions::copy(alloc, &self.known)?;
         let mailboxes = mailboxes::copy(alloc, &self.mailboxes)?;
         Ok(Channels {
             alloc,

@@ -114,10 +114,31 @@ pub fn leave(known: &mut Known, client: u32, name: &[u8]) -> Result<(), QcopStop
     }
 }
 
+// A channel that isn't known yet, with these subscribers, as the last.
+fn add_copy(
+    alloc: Global,
+    known: &mut Known,
+    name: &[u8],
+    subscribers: &[u32],
+) -> Result<(), OutOfMemory>
+    requires { is_known (channels_of known.old.entries) name.now ≡ false }
+    ensures { OnOk result (channels_of known.new.entries ≡ channels_of known.old.entries ++ record { name = name.now; subscribers = subscribers.now } ∷ []) }
+{
+    let name = name.to_vec(alloc)?;
+    let subscribers = subscribers.to_vec(alloc)?;
+    known.insert(name, subscribers)?;
+    Ok(())
+}
+
 /// The same channels with the same subscribers.
-pub fn copy(known: &Known) -> Result<Known, OutOfMemory>
+pub fn copy(alloc: Global, known: &Known) -> Result<Known, OutOfMemory>
     ensures { IfOk result (λ copy. channels_of copy.entries ≡ channels_of known.now.entries) }
 {
-    let copy = known.clone()?;
+    let mut copy = IndexMap::new(alloc);
+    for place in 0..known.len() {
+        if let Some((name, subscribers)) = known.get_index(place) {
+            add_copy(alloc, &mut copy, name, subscribers)?;
+        }
+    }
     Ok(copy)
 }

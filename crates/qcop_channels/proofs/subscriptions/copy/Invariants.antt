@@ -1,0 +1,6 @@
+use Rattle.std.proofs.Common.{◌≡◌, take}
+use Rattle.qcop_channels.specs.Views.{channels_of}
+use Rattle.qcop_channels.proofs.subscriptions.copy.Given as goal
+
+abbrev pub invariant-loop-place : goal.invariant-loop-place
+invariant-loop-place l = channels_of l.copy.entries ≡ take l.place (channels_of l.known.entries)
