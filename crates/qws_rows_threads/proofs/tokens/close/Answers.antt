@@ -14,4 +14,4 @@ pub end-requires-clause-carries : goal.end-requires-clause-carries
 end-requires-clause-carries c = may_carry _ _ _ c.args.entry.now c.requires.head c.requires.refused.1
 
 pub returns-clause-head : goal.returns-clause-head
-returns-clause-head c = served _ _ c.args.turn.head.now _ c.args.entry.now c.requires.head c.end.ensures
+returns-clause-head c = served _ _ c.args.turn.head.now _ c.args.entry.now c.requires.head c.end.ensures.head

@@ -6,4 +6,4 @@ pub end-requires-clause-carries : goal.end-requires-clause-carries
 end-requires-clause-carries c = λ v. gone _ v.table _ 33 _ _ (omega arith) c.requires.unpainted.1
 
 pub returns : goal.returns
-returns c = left c.args.turn.pass.now _ _ c.end.ensures
+returns c = left c.args.turn.pass.now _ _ c.end.ensures.pass
