@@ -4,16 +4,16 @@ use Rattle.std.specs.List.{flat_map, All}
 use Rattle.std.specs.Prelude.{FitsSigned}
 use Rattle.std.specs.Int.{w32, cast_signed, cast_unsigned}
 use Rattle.std.proofs.lemmas.Int.{ints, to_z-of_z}
-use Rattle.std.proofs.lemmas.List.{take_at, take_more, flat_map_more, drop_at}
+use Rattle.std.proofs.lemmas.List.{take_more, flat_map_more, drop_at}
 use Rattle.std.proofs.lemmas.List.Elements.{All-head, All-tail}
 use Rattle.std.proofs.lemmas.List.FromFn.{fill_by_all}
 use Rattle.byteorder.specs.Endian.{little_from, little_bytes}
-use Rattle.byteorder.specs.Numbers.{little_from-cons, little_from-take, little_number-reads_back}
+use Rattle.byteorder.specs.Numbers.{little_from-cons, little_number-reads_back}
 use Rattle.qws_base.specs.declared.points.Point.{Point}
 use Rattle.qws_base.specs.declared.points.Rect.{Rect}
 use Rattle.qws_base.specs.declared.commands.Command.TheVariants.{Region, CursorShape}
 use Rattle.qws_frames.specs.Layout.{u16_at, u32_at, rect_at, rects_at, words_at, IsFrame, SpellsCommand}
-use Rattle.qws_frames.specs.Encoding.{head_bytes, words_bytes, rect_words, rects_bytes, IsRect, IsPlain, IsNamed, IsLetter}
+use Rattle.qws_frames.specs.Encoding.{head_bytes, words_bytes, rect_words, rects_bytes, IsRect, IsPlain, IsLetter}
 
 -- one more item is written
 pub one_more : {X : Type 0} (f : X → List ℕ) (start : List ℕ) (xs : List X) (i : ℕ) (d : X) → i < length xs → (before now : List ℕ) → before ≡ start ++ flat_map f (take i xs) → now ≡ before ++ f (get_or xs i d)
@@ -28,10 +28,6 @@ one_more {X = X} f start xs i d h before now was more =
 pub number_behind : (front rest : List ℕ) (n x : ℕ) → x < 256 ^ n → little_from (length front) n (front ++ (little_bytes n x ++ rest)) ≡ x
 number_behind [] rest n x h = little_number-reads_back n x rest h
 number_behind (a ∷ front) rest n x h = little_from-cons (length front) n a (front ++ (little_bytes n x ++ rest)) ∙ number_behind front rest n x h
-
--- bytes that follow don't change a number
-pub number_stays : (at n : ℕ) (xs ys : List ℕ) → at + n ≤ length xs → little_from at n (xs ++ ys) ≡ little_from at n xs
-number_stays at n xs ys h = sym (little_from-take at n (length xs) (xs ++ ys) h) ∙ ap (little_from at n) (take_at xs ys (length xs) refl)
 
 -- ---- words
 
@@ -143,13 +139,6 @@ plain_built kind words bytes e kind_fits few fit =
     record {
       frame = frame_built kind (4 * length words) 0 bytes (words_bytes words) e kind_fits (omega arith) (omega arith) (omega arith);
       words_are = ap (words_at 8 (length words)) (e ∙ ap (λ (all : List ℕ). h ++ all) (sym (append-nil (words_bytes words)))) ∙ words_behind words h [] 8 fit refl;
-    }
-
-pub named_built : (kind : ℕ) (channel bytes : List ℕ) → bytes ≡ head_bytes kind 0 (length channel) ++ channel → kind < 2 ^ 16 → length channel ≤ 65536 → IsNamed kind channel bytes
-named_built kind channel bytes e kind_fits few =
-    record {
-      frame = frame_built kind 0 (length channel) bytes channel e kind_fits (omega arith) few (omega arith);
-      channel_is = ap (drop 8) e ∙ drop_at (head_bytes kind 0 (length channel)) channel 8 refl;
     }
 
 -- a head, then two parts
