@@ -1,4 +1,17 @@
+pub mod Booleans
+pub mod Integers
 pub mod BoundsLemmas
 pub mod DepthLemmas
 pub mod PictureLaws
 pub mod StreamLemmas
+pub mod PixelLemmas
+pub mod StepLaws
+pub mod ListLemmas
+pub mod ArrangedLemmas
+pub mod ToldLemmas
+pub mod SlotCount
+pub mod MergeLemmas
+pub mod JoinedLemmas
+pub mod RectPixelLemmas
+pub mod PixelRows
+pub mod CountLemmas

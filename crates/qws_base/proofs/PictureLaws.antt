@@ -1,7 +1,7 @@
 -- What a sheet by points has at a point.
 use Rattle.std.specs.Prelude.{ℕ, ◌≡◌, ◌+◌, ◌*◌, ◌/◌, ◌%◌, ◌<◌, ℤ, pos, ◌+ℤ◌, ◌-ℤ◌, nat_abs, int_le, int_lt, Bool, true, false, ◌&&◌, slice_index_or, if◌then◌else◌, refl}
 use Rattle.std.proofs.Common.{◌∙◌, ap, arith}
-use Rattle.std.proofs.lemmas.Int.{ints}
+use Rattle.std.proofs.lemmas.Bool.{and_parts}
 use Rattle.std.proofs.lemmas.List.FromFn.{get_or-map-range_with_len}
 use Rattle.std.proofs.lemmas.Nat.{mul-add-lt, div-mul-add, mod-mul-add}
 use Rattle.qws_base.specs.declared.points.Point.{Point}
@@ -10,30 +10,21 @@ use Rattle.qws_base.specs.declared.inks.Ink.{Ink}
 use Rattle.qws_base.specs.declared.inks.Ink.TheVariants.{Skip}
 use Rattle.qws_base.specs.Points.{spans, holds}
 use Rattle.qws_base.specs.Sheets.{sheet_of, ink_at, place_in}
-
-both : (a b : Bool) → (a && b) ≡ true → (a ≡ true) × (b ≡ true)
-both true b h = (refl, h)
-both false b h = cc
-
--- how far a spanned coordinate is from the start
-side : (low at : ℤ) (n : ℕ) → spans low n at ≡ true → (nat_abs (at -ℤ low) < n) × ((low +ℤ pos (nat_abs (at -ℤ low))) ≡ at)
-side low at n h =
-    let parts = both (int_le low at) (int_lt at (low +ℤ pos n)) h in
-    (grind (arith, ints), grind (arith, ints))
+use Rattle.qws_base.proofs.Integers.{spanned}
 
 at_place : (r : Rect) (f : Point → Ink) (p : Point) → holds r p ≡ true → slice_index_or (sheet_of r f).inks (place_in r p) Skip ≡ f p
 at_place r f p h =
-    let parts = both (spans r.x r.w p.x) (spans r.y r.h p.y) h in
-    let x = side r.x p.x r.w parts.0 in
-    let y = side r.y p.y r.h parts.1 in
+    let parts = and_parts (spans r.x r.w p.x) (spans r.y r.h p.y) h in
+    let x = spanned r.x p.x r.w parts.0 in
+    let y = spanned r.y p.y r.h parts.1 in
     let dx : ℕ = nat_abs (p.x -ℤ r.x) in
     let dy : ℕ = nat_abs (p.y -ℤ r.y) in
     let g : ℕ → Ink = λ k. f (record { x = r.x +ℤ pos (k % r.w); y = r.y +ℤ pos (k / r.w) }) in
-    get_or-map-range_with_len g 0 (r.w * r.h) (dy * r.w + dx) (dy * r.w + dx) Skip (mul-add-lt dy r.w dx r.h y.0 x.0) (omega arith)
-    ∙ ap (λ c. f (record { x = r.x +ℤ pos c; y = r.y +ℤ pos ((dy * r.w + dx) / r.w) })) (mod-mul-add dy r.w dx x.0)
-    ∙ ap (λ c. f (record { x = r.x +ℤ pos dx; y = r.y +ℤ pos c })) (div-mul-add dy r.w dx x.0)
-    ∙ ap (λ c. f (record { x = c; y = r.y +ℤ pos dy })) x.1
-    ∙ ap (λ c. f (record { x = p.x; y = c })) y.1
+    get_or-map-range_with_len g 0 (r.w * r.h) (dy * r.w + dx) (dy * r.w + dx) Skip (mul-add-lt dy r.w dx r.h y.below x.below) (omega arith)
+    ∙ ap (λ c. f (record { x = r.x +ℤ pos c; y = r.y +ℤ pos ((dy * r.w + dx) / r.w) })) (mod-mul-add dy r.w dx x.below)
+    ∙ ap (λ c. f (record { x = r.x +ℤ pos dx; y = r.y +ℤ pos c })) (div-mul-add dy r.w dx x.below)
+    ∙ ap (λ c. f (record { x = c; y = r.y +ℤ pos dy })) x.same
+    ∙ ap (λ c. f (record { x = p.x; y = c })) y.same
 
 by_test : (b : Bool) (r : Rect) (f : Point → Ink) (p : Point) → holds r p ≡ b → (if b then slice_index_or (sheet_of r f).inks (place_in r p) Skip else Skip) ≡ (if b then f p else Skip)
 by_test true r f p h = at_place r f p h

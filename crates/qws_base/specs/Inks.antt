@@ -2,7 +2,6 @@
 use Rattle.std.specs.Prelude.{ℕ, ◌+◌, ◌-◌, ◌*◌, ◌/◌, Bool, true, false, bit_and, bit_or, bit_xor}
 use Rattle.qws_base.specs.Colours.{red, green, blue, colour_of, scene_colour, shown_colour}
 use Rattle.qws_base.specs.declared.colours.Depth.{Depth}
-use Rattle.qws_base.specs.declared.colours.Depth.TheVariants.{Full}
 use Rattle.qws_base.specs.declared.inks.Ink.{Ink}
 use Rattle.qws_base.specs.declared.inks.Ink.TheVariants.{Skip, Copy, Xor, And, Or, Blend}
 

@@ -1,12 +1,10 @@
 -- Named channels with their subscribers, and the mailbox of each client.
-use Rattle.std.specs.Prelude.{ℕ, ◌^◌, ◌-◌, nat_le, nat_lt, min, Bool, true, false, not, ◌&&◌, ◌==◌, List, [], ◌∷◌, ◌++◌, map, length, drop, slice_get, slice_index_or, slice_set, Option, None, Some, if◌then◌else◌}
+use Rattle.std.specs.Prelude.{ℕ, nat_le, Bool, true, false, not, ◌&&◌, ◌==◌, List, [], ◌∷◌, ◌++◌, map, length, drop, slice_get, slice_index_or, slice_set, Option, if◌then◌else◌}
 use Rattle.std.specs.List.{list_any, list_all, find, filter, range_with_len}
-use Rattle.std.specs.Option.{option_map, option_map_or, option_or}
+use Rattle.std.specs.Option.{option_map_or}
 use Rattle.std.specs.Str.{bytes_eq}
 use Rattle.qws_base.specs.declared.replies.Event.{Event}
 use Rattle.qws_base.specs.declared.replies.Event.TheVariants.{Message, RegionModified}
-use Rattle.qws_base.specs.declared.replies.Refusal.{Refusal}
-use Rattle.qws_base.specs.declared.replies.Refusal.TheVariants.{Joined, TooManyChannels, BadName, NotJoined, NoChannel, MailboxFull, TooLarge, Empty}
 
 -- a known channel, with its subscribers in the order of joining
 pub record Channel : Type 0 where
@@ -21,11 +19,6 @@ pub record Mail : Type 0 where
 -- no channel, and 16 empty mailboxes
 unfoldable pub opening_mail : Mail
 opening_mail = record { channels = []; mailboxes = map (λ client. []) (range_with_len 0 16) }
-
--- the first cause of a list that applies
-abbrev pub first_cause : List (Bool × Refusal) → Option Refusal
-first_cause [] = None
-first_cause ((applies, cause) ∷ causes) = if applies then Some cause else first_cause causes
 
 -- ---- channels
 
@@ -88,38 +81,15 @@ abbrev pub delivered : Event → List ℕ → List (List Event) → List (List E
 delivered event clients boxes =
     map (λ c. if is_among c clients then mailbox_of boxes c ++ event ∷ [] else mailbox_of boxes c) (range_with_len 0 (length boxes))
 
--- ---- the commands on channels and mailboxes: their refusals in order, and what an accepted one leaves
+-- ---- what the commands on channels and mailboxes leave, and what they tell
 
-abbrev pub join_refusal : Mail → ℕ → List ℕ → Option Refusal
-join_refusal mail client name =
-    first_cause (
-    (not (is_name name), BadName)
-    ∷ (is_subscriber mail.channels client name, Joined)
-    ∷ (not (is_known mail.channels name) && nat_le 64 (length mail.channels), TooManyChannels)
-    ∷ [])
-
+-- the client is the channel's last subscriber; an unknown channel becomes known, as the last
 abbrev pub mail_joined : Mail → ℕ → List ℕ → Mail
 mail_joined mail client name = record mail { channels = channels_joined mail.channels client name }
 
-abbrev pub leave_refusal : Mail → ℕ → List ℕ → Option Refusal
-leave_refusal mail client name = first_cause ((not (is_subscriber mail.channels client name), NotJoined) ∷ [])
-
+-- the client isn't a subscriber
 abbrev pub mail_left : Mail → ℕ → List ℕ → Mail
 mail_left mail client name = record mail { channels = channels_left mail.channels client name }
-
--- the length that a refusal tells, in 32 bits
-abbrev pub told_length : List ℕ → ℕ
-told_length payload = min (length payload) 4294967295
-
-abbrev pub send_refusal : Mail → List ℕ → List ℕ → List ℕ → Option Refusal
-send_refusal mail channel message payload =
-    option_or
-    (first_cause (
-    (not (is_name message), BadName)
-    ∷ (nat_lt 4096 (length payload), TooLarge (told_length payload))
-    ∷ (not (is_known mail.channels channel), NoChannel)
-    ∷ []))
-    (option_map (λ client. MailboxFull client) (first_full mail.mailboxes (subscribers_of mail.channels channel)))
 
 -- one message at the end of each subscriber's mailbox, also the sender's where it is one
 abbrev pub mail_sent : Mail → ℕ → List ℕ → List ℕ → List ℕ → Mail

@@ -1,18 +1,13 @@
--- The state of the server, and what a command does to it.
-use Rattle.std.specs.Prelude.{ℕ, nat_lt, Bool, true, false, not, List, [], ◌∷◌, ◌++◌, map, slice_index_or, Option, None, Some, if◌then◌else◌}
-use Rattle.std.specs.List.{find, filter, range_with_len}
-use Rattle.qws_base.specs.Points.{origin_zero}
-use Rattle.qws_base.specs.Windows.{has_slot, is_live}
+-- The state of the server.
+use Rattle.std.specs.Prelude.{ℕ, Bool, true, false, List, [], map, slice_index_or, Option, None, Some}
+use Rattle.std.specs.List.{range_with_len}
 use Rattle.qws_base.specs.Mail.{Mail, opening_mail}
-use Rattle.qws_base.specs.declared.points.Point.{Point}
-use Rattle.qws_base.specs.declared.points.Rect.{Rect}
 use Rattle.qws_base.specs.declared.windows.WindowView.{WindowView}
 use Rattle.qws_base.specs.declared.windows.Cursor.{Cursor}
 use Rattle.qws_base.specs.declared.commands.Command.{Command}
-use Rattle.qws_base.specs.declared.commands.Command.TheVariants.{Create, Region, Move}
+use Rattle.qws_base.specs.declared.commands.Command.TheVariants.{Create, Destroy, Region, Move, Raise, Lower, CursorShape, CursorMove, CursorShow, Join, Leave, Send, Take, IsRegistered}
 use Rattle.qws_base.specs.declared.replies.Reply.{Reply}
-use Rattle.qws_base.specs.declared.replies.Reply.TheVariants.{Created, Done, Refused}
-use Rattle.qws_base.specs.declared.replies.Refusal.TheVariants.{NoWindow, NoSlot}
+use Rattle.qws_base.specs.declared.replies.Reply.TheVariants.{Created, Done, Sent, Registered, Event, Refused}
 
 -- the windows from front to back, the cursor, channels and mailboxes, and the revision of slot i at place i
 pub record State : Type 0 where
@@ -36,49 +31,29 @@ opening_state = record { windows = []; cursor = opening_cursor; mail = opening_m
 abbrev pub revision_of : State → ℕ → ℕ
 revision_of state slot = slice_index_or state.revisions slot 1
 
--- ---- the moves of windows
-
--- the least slot that no window has
-unfoldable pub free_slot : List WindowView → Option ℕ
-free_slot windows = find (λ slot. not (is_live windows slot)) (range_with_len 0 32)
-
-abbrev pub is_above : ℕ → WindowView → Bool
-is_above layer window = nat_lt layer window.layer
-
--- at the front of its layer: behind the windows of higher layers, before all others
-abbrev pub with_front : WindowView → List WindowView → List WindowView
-with_front new windows = filter (is_above new.layer) windows ++ new ∷ filter (λ w. not (is_above new.layer w)) windows
-
--- a new window: at (0, 0), without rectangles
-abbrev pub new_window : ℕ → ℕ → ℕ → WindowView
-new_window slot client layer = record { slot = slot; owner = client; layer = layer; origin = origin_zero; rects = [] }
-
--- the window of the slot with a new origin and new rectangles, and each other window as it is
-abbrev pub with_region : ℕ → Point → List Rect → WindowView → WindowView
-with_region slot origin rects w = if has_slot slot w then record w { origin = origin; rects = rects } else w
-
--- ---- the step
-
-abbrev pub create_step : State → ℕ → ℕ → Option ℕ → State × Reply
-create_step state client layer None = (state, Refused NoSlot)
-create_step state client layer (Some slot) = (record state { windows = with_front (new_window slot client layer) state.windows }, Created slot)
-
-abbrev pub region_step : State → ℕ → Point → List Rect → Bool → State × Reply
-region_step state slot origin rects true = (record state { windows = map (with_region slot origin rects) state.windows }, Done)
-region_step state slot origin rects false = (state, Refused (NoWindow slot))
-
--- The state after a command of a client, and the reply. A refused command leaves the state as it is.
--- So far it tells the meaning of Create and Region, for a single client within the limits of both commands.
-abbrev pub step : State → ℕ → Command → State × Reply
-step state client (Create layer) = create_step state client layer (free_slot state.windows)
-step state client (Region slot origin rects) = region_step state slot origin rects (is_live state.windows slot)
-step state client command = (state, Done)
+-- ---- what a reply and a command tell of a step
 
 abbrev pub is_refused : Reply → Bool
+is_refused (Created slot) = false
+is_refused Done = false
+is_refused (Sent to) = false
+is_refused (Registered known) = false
+is_refused (Event event) = false
 is_refused (Refused cause) = true
-is_refused other = false
 
 -- the slot that a command moves
 abbrev pub moved_slot : Command → Option ℕ
+moved_slot (Create layer) = None
+moved_slot (Destroy slot) = None
+moved_slot (Region slot origin rects) = None
 moved_slot (Move slot origin) = Some slot
-moved_slot command = None
+moved_slot (Raise slot) = None
+moved_slot (Lower slot) = None
+moved_slot (CursorShape w h cells) = None
+moved_slot (CursorMove x y) = None
+moved_slot (CursorShow shown) = None
+moved_slot (Join channel) = None
+moved_slot (Leave channel) = None
+moved_slot (Send channel message payload) = None
+moved_slot Take = None
+moved_slot (IsRegistered channel) = None

@@ -1,11 +1,10 @@
 -- Windows from front to back: who owns a pixel, and where a window is.
-use Rattle.std.specs.Prelude.{ℕ, Bool, false, ◌&&◌, ◌==◌, List, Option, None, Some, if◌then◌else◌}
+use Rattle.std.specs.Prelude.{ℕ, Bool, false, ◌&&◌, ◌==◌, List, Option, None, Some}
 use Rattle.std.specs.List.{list_any, find, filter}
 use Rattle.std.specs.Option.{option_map, option_map_or}
 use Rattle.qws_base.specs.Sides.{Sides}
-use Rattle.qws_base.specs.Points.{holds, any_holds, shifted, minus, point_of, pixels, origin_zero, is_on_screen}
+use Rattle.qws_base.specs.Points.{holds, shifted, point_of, pixels, origin_zero, is_on_screen}
 use Rattle.qws_base.specs.declared.points.Point.{Point}
-use Rattle.qws_base.specs.declared.points.Rect.{Rect}
 use Rattle.qws_base.specs.declared.windows.WindowView.{WindowView}
 
 abbrev pub has_slot : ℕ → WindowView → Bool
@@ -18,6 +17,10 @@ is_live windows slot = list_any (has_slot slot) windows
 abbrev pub is_own : List WindowView → ℕ → ℕ → Bool
 is_own windows client slot = list_any (λ w. has_slot slot w && w.owner == client) windows
 
+-- the client whose window has the slot
+abbrev pub client_of_slot : List WindowView → ℕ → Option ℕ
+client_of_slot windows slot = option_map (λ w. w.owner) (find (has_slot slot) windows)
+
 -- the origin of the window in a slot; (0, 0) where there is none
 abbrev pub origin_of : List WindowView → ℕ → Point
 origin_of windows slot = option_map_or (λ w. w.origin) (find (has_slot slot) windows) origin_zero
@@ -25,6 +28,10 @@ origin_of windows slot = option_map_or (λ w. w.origin) (find (has_slot slot) wi
 -- one of the window's rectangles, moved by its origin, holds the point
 abbrev pub covers : Point → WindowView → Bool
 covers p window = list_any (λ r. holds (shifted window.origin r) p) window.rects
+
+-- the request of a window on the screen: the pixels that it covers
+abbrev pub request_points : Sides → WindowView → Point → Bool
+request_points size window p = is_on_screen size p && covers p window
 
 -- the slot of the first window that covers the point
 abbrev pub owner_at : List WindowView → Point → Option ℕ

@@ -1,10 +1,10 @@
 //! Colours of 24 bits, and their form at depth 16.
-ghost use Rattle.std.specs.Prelude.{◌≡◌, ◌<◌, ◌^◌, SomeIff, bit_and, bit_or, bit_xor};
-ghost use Rattle.qws_base.specs.Colours.{colour_of, colour_count, IsSceneColour, scene_colour, shown_colour, narrow_colour, wide_colour};
+ghost use Rattle.std.specs.Prelude.{◌≡◌, ◌<◌, ◌^◌, ◌↔◌, IsTrue, [], ◌∷◌, SomeIff, bit_and, bit_or, bit_xor};
+ghost use Rattle.qws_base.specs.Colours.{red, green, blue, colour_of, colour_count, IsSceneColour, scene_colour, shown_colour, narrow_colour, wide_colour};
 
 use std::marker::Model;
 
-/// The depth of a screen.
+/// The depth of a screen: how many bits a pixel has.
 #[derive(Clone, Copy, Debug, PartialEq, Eq)]
 pub enum Depth {
     /// 24 bits: eight for each of red, green and blue.
@@ -46,14 +46,22 @@ impl Rgb {
         self.0
     }
 
-    // The colour with those channels.
-    pub(crate) fn of_channels(red: u32, green: u32, blue: u32) -> Rgb
-        requires red { red < 256 }
-        requires green { green < 256 }
-        requires blue { blue < 256 }
+    /// The colour with these channels, each from 0 for none to 255 for full.
+    pub fn of_channels(red: u8, green: u8, blue: u8) -> Rgb
         ensures { result ≡ colour_of red green blue }
     {
-        Rgb(red * 65536 + green * 256 + blue)
+        Rgb(u32::from(red) * 65536 + u32::from(green) * 256 + u32::from(blue))
+    }
+
+    /// Its channels: red, green and blue, each from 0 to 255. They are the three bytes of a pixel in a raw PPM.
+    pub fn channels(&self) -> [u8; 3]
+        ensures { result ≡ red self.now ∷ green self.now ∷ blue self.now ∷ [] }
+    {
+        [
+            (self.0 / 65536) as u8,
+            (self.0 / 256 % 256) as u8,
+            (self.0 % 256) as u8,
+        ]
     }
 
     // The bits that one of two colours has and the other has not; they have as many bits as the longer of the two.
@@ -109,25 +117,38 @@ pub fn wide(v: Rgb) -> Rgb
     Rgb((r * 8 + r / 4) * 65536 + (g * 4 + g / 16) * 256 + (b * 8 + b / 4))
 }
 
-/// What a scene of a depth holds for a colour.
-pub(crate) fn at_depth(depth: Depth, c: Rgb) -> Rgb
-    ensures value { result ≡ scene_colour depth c }
-    ensures range { IsSceneColour depth result }
-{
-    let _range = c.value();
-    match depth {
-        Depth::Full => c,
-        Depth::Narrow => narrow(c),
+impl Depth {
+    /// Whether a colour is a scene colour of the depth, as a scene's pixels and its backdrop are.
+    pub fn has(self, v: Rgb) -> bool
+        ensures { IsTrue result ↔ IsSceneColour self v }
+    {
+        let number = v.value();
+        match self {
+            Depth::Full => true,
+            Depth::Narrow => number < 1 << 16,
+        }
     }
-}
 
-/// The colour that a scene's number stands for.
-pub(crate) fn full(depth: Depth, v: Rgb) -> Rgb
-    requires { IsSceneColour depth v }
-    ensures { result ≡ shown_colour depth v }
-{
-    match depth {
-        Depth::Full => v,
-        Depth::Narrow => wide(v),
+    /// What a scene of the depth holds for a colour of 24 bits.
+    pub fn scene(self, c: Rgb) -> Rgb
+        ensures value { result ≡ scene_colour self c }
+        ensures range { IsSceneColour self result }
+    {
+        let _range = c.value();
+        match self {
+            Depth::Full => c,
+            Depth::Narrow => narrow(c),
+        }
+    }
+
+    /// The colour of 24 bits that a scene colour of the depth stands for.
+    pub fn shown(self, v: Rgb) -> Rgb
+        requires { IsSceneColour self v }
+        ensures { result ≡ shown_colour self v }
+    {
+        match self {
+            Depth::Full => v,
+            Depth::Narrow => wide(v),
+        }
     }
 }

@@ -6,7 +6,7 @@ use crate::points::Point;
 use std::alloc::Global;
 
 /// What a client asks of the server. Slots are 0 to 31, 32 for no window.
-#[derive(Debug, Drop)]
+#[derive(Debug, PartialEq, Eq, Drop)]
 pub enum Command {
     /// A new window of the client, at the front of a layer.
     Create {

@@ -1,5 +1,5 @@
 //! The entries of a session: the server's journal of commands, and each client's book of paints.
-ghost use Rattle.std.specs.Prelude.{◌≡◌, ◌<◌, ◌++◌, ◌∷◌, [], length, IfOk};
+ghost use Rattle.std.specs.Prelude.{◌≡◌, ◌<◌, ◌≤◌, ◌↔◌, ◌++◌, ◌∷◌, [], length, IsTrue, IfOk};
 
 use crate::commands::Command;
 use crate::lists::OutOfMemory;
@@ -8,12 +8,26 @@ use std::alloc::Global;
 use std::marker::Model;
 
 /// A closed server turn: its number, counted from 1, its client, and the command with its reply.
-#[derive(Debug, Drop)]
+#[derive(Debug, PartialEq, Eq, Drop)]
 pub struct JournalEntry {
     pub number: u64,
     pub client: u32,
     pub command: Command,
     pub reply: Reply,
+}
+
+impl JournalEntry {
+    /// An equal entry.
+    pub fn copy(&self, alloc: Global) -> Result<Self, OutOfMemory>
+        ensures { IfOk result (λ copy. copy ≡ self.now) }
+    {
+        Ok(JournalEntry {
+            number: self.number,
+            client: self.client,
+            command: self.command.copy(alloc)?,
+            reply: self.reply.copy(alloc)?,
+        })
+    }
 }
 
 /// A closed paint turn: how many server turns were closed when it began, the slot that was painted, the caller's tag, and
@@ -78,7 +92,14 @@ impl Book {
         &self.list
     }
 
-    /// Appends an entry. It takes no memory.
+    /// Whether it holds as many entries as it may.
+    pub fn is_full(&self) -> bool
+        ensures { IsTrue result ↔ (self.now.limit ≤ length self.now.entries) }
+    {
+        self.limit <= self.list.len() as u64
+    }
+
+    /// Appends an entry to a book that isn't full. It takes no memory, since the room was taken with the book.
     pub fn push(&mut self, entry: BookEntry)
         requires { length self.old.entries < self.old.limit }
         ensures { self.new ≡ record self.old { entries = self.old.entries ++ entry ∷ [] } }

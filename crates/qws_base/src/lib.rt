@@ -2,6 +2,7 @@
 #![tactic(auto)]
 
 mod bounds;
+mod cells;
 mod colours;
 mod commands;
 mod gates;
@@ -18,15 +19,20 @@ mod streams;
 mod windows;
 
 pub use bounds::Bounds;
+pub use cells::offset_in;
 pub use colours::{Depth, Rgb, narrow, wide};
 pub use commands::Command;
 pub use gates::{Gate, NoGate, Place};
 pub use inks::{Ink, after, after_at};
 pub use journals::{Book, BookEntry, JournalEntry};
-pub use laws::{narrow_of_wide, opaque_blend, transparent_blend};
+pub use laws::{
+    all_allocated, merges_by_order, narrow_of_wide, no_slot_is_free, one_owner, opaque_blend,
+    other_commands_leave_windows, owners_are_told, rects_have_pixels, refused_stays,
+    revisions_rise, transparent_blend, windows_stay_arranged,
+};
 pub use lists::{Bytes, OutOfMemory, Rects, Words};
 pub use memory::{CleanSink, CleanSource, MemSink, MemSource};
-pub use pictures::{Picture, RowBuf};
+pub use pictures::{Picture, RowBuf, is_row};
 pub use points::{Point, Rect, Size};
 pub use replies::{Event, PaintReply, Refusal, Reply};
 pub use std_edge::{StdSink, StdSource};

@@ -1,5 +1,9 @@
 //! Lists of rectangles, bytes and words. Contracts see each as a list.
-ghost use Rattle.std.specs.Prelude.{◌≡◌, IfOk};
+ghost use Rattle.std.specs.Prelude.{◌≡◌, ◌==◌, IsTrue, ◌↔◌, IfOk};
+ghost use Rattle.std.specs.Cmp.Lexicographic.{pointwise};
+ghost use Rattle.std.proofs.lemmas.Cmp.{nat_list_eq_equiv, lists_equiv};
+ghost use Rattle.std.specs.Cmp.{partial_equiv_from_equiv};
+ghost use Rattle.qws_base.specs.Equal.{same_rect, same_rect_equiv};
 
 use crate::points::Rect;
 use std::alloc::{AllocError, AllocFailed, Global};
@@ -61,6 +65,23 @@ impl Rects {
     }
 }
 
+impl PartialEq for Rects {
+    ghost eq = { pointwise same_rect };
+
+    ghost laws = { partial_equiv_from_equiv (lists_equiv same_rect_equiv) };
+
+    fn eq(&self, other: &Rects) -> bool
+        ensures value { result ≡ pointwise same_rect self.now other.now }
+        ensures same { IsTrue result ↔ (self.now ≡ other.now) }
+    {
+        self.items.as_slice() == other.items.as_slice()
+    }
+}
+
+impl Eq for Rects {
+    ghost laws = { lists_equiv same_rect_equiv };
+}
+
 /// A list of bytes.
 #[derive(Debug, Drop)]
 pub struct Bytes {
@@ -100,6 +121,23 @@ impl Bytes {
     }
 }
 
+impl PartialEq for Bytes {
+    ghost eq = { pointwise ◌==◌ };
+
+    ghost laws = { partial_equiv_from_equiv nat_list_eq_equiv };
+
+    fn eq(&self, other: &Bytes) -> bool
+        ensures value { result ≡ pointwise ◌==◌ self.now other.now }
+        ensures same { IsTrue result ↔ (self.now ≡ other.now) }
+    {
+        self.items.as_slice() == other.items.as_slice()
+    }
+}
+
+impl Eq for Bytes {
+    ghost laws = { nat_list_eq_equiv };
+}
+
 /// A list of numbers of 32 bits.
 #[derive(Debug, Drop)]
 pub struct Words {
@@ -137,4 +175,21 @@ impl Words {
             items: self.items.to_vec(alloc)?,
         })
     }
+}
+
+impl PartialEq for Words {
+    ghost eq = { pointwise ◌==◌ };
+
+    ghost laws = { partial_equiv_from_equiv nat_list_eq_equiv };
+
+    fn eq(&self, other: &Words) -> bool
+        ensures value { result ≡ pointwise ◌==◌ self.now other.now }
+        ensures same { IsTrue result ↔ (self.now ≡ other.now) }
+    {
+        self.items.as_slice() == other.items.as_slice()
+    }
+}
+
+impl Eq for Words {
+    ghost laws = { nat_list_eq_equiv };
 }

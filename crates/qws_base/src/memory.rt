@@ -9,7 +9,8 @@ use crate::streams::{Failed, Sink, Source};
 use std::alloc::Global;
 use std::marker::Model;
 
-#[derive(Drop)]
+/// A source in memory, whose calls fail as they are told. It tells its bytes, and counts its calls and its faults.
+#[derive(Debug, Drop)]
 pub struct MemSource {
     bytes: Vec<u8>,
     at: usize,
@@ -31,7 +32,8 @@ impl Model for MemSource {
 }
 
 impl MemSource {
-    /// Gives these bytes in pieces of at most that many, and fails at the calls of these numbers, from 1.
+    /// Gives these bytes in pieces of at most `max_piece`, which is at least 1, and fails at the calls of the numbers in
+    /// `failing`, counted from 1.
     pub fn new(bytes: Vec<u8>, max_piece: usize, failing: Vec<u64>) -> Self
         requires { 0 < max_piece }
         ensures { result ≡ record { left = bytes.items; max_piece = max_piece; calls = 0; faults = 0; failing = failing.items } }
@@ -60,6 +62,7 @@ impl Source for MemSource {
         ensures left { IfOk result (λ n. Some self.new.left ≡ left_after n (Some self.old.left)) }
         ensures kept { OnErr result (Some self.new.left ≡ Some self.old.left) }
         ensures failed { OnErr result (Rose self.old.faults self.new.faults) }
+        ensures unfailed { OnOk result (self.new.faults ≡ self.old.faults) }
         ensures never_falls { self.old.faults ≤ self.new.faults }
         ensures counted { self.new.calls ≤ self.old.calls + 1 }
 
@@ -68,7 +71,6 @@ impl Source for MemSource {
         ensures as_told { is_err result ≡ list_any (λ call. call == self.new.calls) self.old.failing }
         ensures call { self.new.calls ≡ min (self.old.calls + 1) 18446744073709551615 }
         ensures settings { (self.new.max_piece ≡ self.old.max_piece) × (self.new.failing ≡ self.old.failing) }
-        ensures clean { OnOk result (self.new.faults ≡ self.old.faults) }
     {
         self.calls = self.calls.saturating_add(1);
         if self.failing.contains(&self.calls) {
@@ -85,7 +87,9 @@ impl Source for MemSource {
     }
 }
 
-#[derive(Drop)]
+/// A sink in memory, whose calls fail as they are told, and where its room is full. It tells its bytes, and counts its calls
+/// and its faults.
+#[derive(Debug, Drop)]
 pub struct MemSink {
     bytes: Vec<u8>,
     room: usize,
@@ -107,8 +111,8 @@ impl Model for MemSink {
 }
 
 impl MemSink {
-    /// Takes its room now. It takes pieces of at most that many bytes, and fails at the calls of these numbers, from 1,
-    /// and where the room is full.
+    /// Takes its room now, in bytes. It takes pieces of at most `max_piece` bytes, which is at least 1, and fails at the
+    /// calls of the numbers in `failing`, counted from 1, and where the room is full.
     pub fn new(
         alloc: Global,
         room: usize,
@@ -150,6 +154,7 @@ impl Sink for MemSink {
         ensures written { IfOk result (λ n. Some self.new.written ≡ with_bytes (take n piece.now) (Some self.old.written)) }
         ensures kept { OnErr result (Some self.new.written ≡ Some self.old.written) }
         ensures failed { OnErr result (Rose self.old.faults self.new.faults) }
+        ensures unfailed { OnOk result (self.new.faults ≡ self.old.faults) }
         ensures never_falls { self.old.faults ≤ self.new.faults }
 
         // It takes as much as it may, and fails at just the calls that are to fail, and where the room is full.
@@ -157,7 +162,6 @@ impl Sink for MemSink {
         ensures as_told { is_err result ≡ (is_full self.old piece.now || list_any (λ call. call == self.new.calls) self.old.failing) }
         ensures call { self.new.calls ≡ min (self.old.calls + 1) 18446744073709551615 }
         ensures settings { (self.new.room ≡ self.old.room) × (self.new.max_piece ≡ self.old.max_piece) × (self.new.failing ≡ self.old.failing) }
-        ensures clean { OnOk result (self.new.faults ≡ self.old.faults) }
     {
         self.calls = self.calls.saturating_add(1);
         let n = piece
@@ -178,7 +182,7 @@ impl Sink for MemSink {
 }
 
 /// Gives all it has at once, and never fails.
-#[derive(Drop)]
+#[derive(Debug, Drop)]
 pub struct CleanSource {
     bytes: Vec<u8>,
     at: usize,
@@ -195,6 +199,7 @@ impl Model for CleanSource {
 }
 
 impl CleanSource {
+    /// A source of these bytes.
     pub fn new(bytes: Vec<u8>) -> Self
         ensures { result ≡ bytes.items }
     {
@@ -217,11 +222,12 @@ impl Source for CleanSource {
     }
 }
 
-/// Takes all, keeps nothing, and never fails.
-#[derive(Drop)]
+/// Takes each piece whole, keeps nothing, and never fails.
+#[derive(Debug, Drop)]
 pub struct CleanSink;
 
 impl CleanSink {
+    /// A sink that keeps nothing.
     pub fn new() -> Self {
         CleanSink
     }
@@ -232,7 +238,9 @@ impl Sink for CleanSink {
 
     ghost faults = { λ s. 0 };
 
-    fn write(&mut self, piece: &[u8]) -> Result<usize, Failed> {
+    fn write(&mut self, piece: &[u8]) -> Result<usize, Failed>
+        ensures { result ≡ Ok (length piece.now) }
+    {
         Ok(piece.len())
     }
 }

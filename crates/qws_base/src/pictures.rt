@@ -1,5 +1,5 @@
 //! Pictures, seen as their sheets.
-ghost use Rattle.std.specs.Prelude.{◌≡◌, length, IfOk};
+ghost use Rattle.std.specs.Prelude.{◌≡◌, ◌↔◌, length, IsTrue, IfOk};
 ghost use Rattle.qws_base.specs.Sheets.{Sheet, row_of, IsRow};
 ghost use Rattle.qws_base.specs.Lending.{skips};
 
@@ -18,10 +18,25 @@ pub trait Picture {
     fn reach(&self) -> Rect
         ensures { result ≡ (sheet self.now).reach };
 
-    /// Fills `out` with the inks of the points of a row, from the point `(x, y)` to the right.
+    /// Fills `out` with the inks of the points of a row, from the point `(x, y)` to the right: `out[j]` is that of
+    /// `(x + j, y)`. Rows are in -8,192 to 8,191, and columns too. It takes no memory.
     fn row(&self, y: i32, x: i32, out: &mut [Ink])
         requires { IsRow y x (length out.old) }
         ensures { out.new ≡ row_of (sheet self.now) y x (length out.old) };
+}
+
+/// Whether so many points of a row, from the point `(x, y)` to the right, may be asked for: those in columns and rows -8,192
+/// to 8,191.
+pub fn is_row(y: i32, x: i32, len: usize) -> bool
+    ensures { IsTrue result ↔ IsRow y x len }
+{
+    if y < -8192 || y > 8191 {
+        return false;
+    }
+    if x < -8192 || x > 8192 || len > 16384 {
+        return false;
+    }
+    x + len as i32 <= 8192
 }
 
 // The pixels of the longest row of a screen.
@@ -37,18 +52,20 @@ fn skips(alloc: Global, n: usize) -> Result<Vec<Ink>, OutOfMemory>
 }
 
 /// Room for the inks of a screen's row: 640 of them. Contracts see them as a list.
-#[derive(Drop)]
+#[derive(Debug, Drop)]
 pub struct RowBuf {
     items: Vec<Ink>,
 }
 
 impl Model for RowBuf {
-    ghost use Rattle.std.specs.Prelude.{List};
+    ghost use Rattle.std.specs.Prelude.{◌≡◌, List, length};
     ghost use Rattle.qws_base.specs.declared.inks.Ink.{Ink};
 
     ghost Value = { List Ink };
 
     ghost view = { λ b. b.items.items };
+
+    ghost invariant = { λ b. length b.items.items ≡ 640 };
 }
 
 impl RowBuf {
@@ -69,6 +86,7 @@ impl RowBuf {
     pub fn inks(&mut self) -> &mut [Ink]
         ensures* writes_back { sem 𝓛 (LendsInks self.entry result) }
         ensures value { result.now ≡ self.old }
+        ensures len { length result.now ≡ 640 }
     {
         self.items.as_mut_slice()
     }

@@ -1,6 +1,7 @@
 //! Points, rectangles and the size of a screen, in pixels.
-ghost use Rattle.std.specs.Prelude.{◌≡◌, SomeIff};
+ghost use Rattle.std.specs.Prelude.{◌≡◌, ◌↔◌, IsTrue, SomeIff};
 ghost use Rattle.qws_base.specs.Sides.{IsScreen};
+ghost use Rattle.qws_base.specs.Points.{IsOnLargest, IsPlaced};
 
 use std::marker::Model;
 
@@ -9,6 +10,22 @@ use std::marker::Model;
 pub struct Point {
     pub x: i32,
     pub y: i32,
+}
+
+impl Point {
+    /// Whether both coordinates are in -4,096 to 4,095, as those of a window's origin are.
+    pub fn is_placed(&self) -> bool
+        ensures { IsTrue result ↔ IsPlaced self.now }
+    {
+        -4096 <= self.x && self.x <= 4095 && -4096 <= self.y && self.y <= 4095
+    }
+
+    /// Whether it is a pixel of the largest screen, of 640 columns and 480 rows.
+    pub fn is_on_largest(&self) -> bool
+        ensures { IsTrue result ↔ IsOnLargest self.now }
+    {
+        0 <= self.x && self.x <= 639 && 0 <= self.y && self.y <= 479
+    }
 }
 
 /// A rectangle: its top left point, its width and its height. It holds `w * h` points.

@@ -5,7 +5,7 @@ use crate::lists::{Bytes, OutOfMemory};
 use std::alloc::Global;
 
 /// What a client's mailbox holds.
-#[derive(Debug, Drop)]
+#[derive(Debug, PartialEq, Eq, Drop)]
 pub enum Event {
     /// A message of a channel, from a client.
     Message {
@@ -21,7 +21,7 @@ pub enum Event {
 }
 
 /// The server's answer to a command.
-#[derive(Debug, Drop)]
+#[derive(Debug, PartialEq, Eq, Drop)]
 pub enum Reply {
     /// A window has the slot.
     Created { slot: u32 },

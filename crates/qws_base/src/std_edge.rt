@@ -5,7 +5,7 @@ use crate::streams::{Failed, Sink, Source};
 use std::io::{Read, Write};
 
 /// A reader of std as a source.
-#[derive(Drop)]
+#[derive(Debug, Drop)]
 pub struct StdSource<R> {
     reader: R,
     faults: u64,
@@ -37,7 +37,7 @@ impl<R: Read> Source for StdSource<R> {
 }
 
 /// A writer of std as a sink.
-#[derive(Drop)]
+#[derive(Debug, Drop)]
 pub struct StdSink<W> {
     writer: W,
     faults: u64,

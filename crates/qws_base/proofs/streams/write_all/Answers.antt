@@ -9,5 +9,5 @@ loop-at-preserved g c =
     record {
       within = omega (arith, c.in_ok-at.ensures.within, ap length part ∙ length-drop c.loop-at.at c.args.bytes.now);
       written = more_written _ _ _ c.args.bytes.now _ c.loop-at.at c.in_ok-at.field-0 part c.loop-at.invariant.written c.in_ok-at.ensures.written;
-      faults = omega arith;
+      faults = c.in_ok-at.ensures.unfailed ∙ c.loop-at.invariant.faults;
     }
