@@ -1,9 +1,9 @@
 -- Bands seen from a row: their next end, what they have there, and what is left of them.
-use Rattle.std.proofs.Common.{◌≡◌, ℕ, ◌+◌, ◌<◌, true, false, ◌||◌, ◌&&◌, ◌⊎◌, List, [], ◌∷◌, ◌++◌, length, get_or, take, drop, refl, sym, ap, ◌∙◌, subst, inl, inr, arith, to_z, of_z, w32}
-use Rattle.std.specs.Prelude.{ℤ, ◌<ℤ◌, ◌≤ℤ◌}
+use Rattle.std.proofs.Common.{◌≡◌, ℕ, ◌+◌, ◌-◌, ◌<◌, ◌≤◌, true, false, ◌||◌, ◌&&◌, ◌⊎◌, List, [], ◌∷◌, ◌++◌, length, get_or, take, drop, refl, sym, ap, ◌∙◌, subst, inl, inr, arith, to_z, of_z, w32}
+use Rattle.std.specs.Prelude.{ℤ, pos, ◌<ℤ◌, ◌≤ℤ◌}
 use Rattle.std.specs.List.{All, AllByRecursion as Each}
 use Rattle.std.proofs.lemmas.Int.{ints}
-use Rattle.std.proofs.lemmas.List.{take-append-drop, drop_more}
+use Rattle.std.proofs.lemmas.List.{take-append-drop, drop_more, drop-take}
 use Rattle.std.proofs.lemmas.List.Elements.{All-from_recursion, recursion_from_All, All-head}
 use Rattle.std.proofs.lemmas.List.Folds.{list_any-append}
 use Rattle.qws_base.specs.Points.{spans, holds, any_holds}
@@ -12,7 +12,7 @@ use Rattle.qws_base.specs.declared.points.Point.{Point}
 use Rattle.qws_base.specs.declared.points.Rect.{Rect}
 use Rattle.band_regions.specs.Ranges.{IsInRange}
 use Rattle.band_regions.specs.Rows.{IsSpan, IsRow, IsLeftOf, has_column}
-use Rattle.band_regions.specs.Bands.{IsBanded, IsRestOfBands, EndsBelow, ReachesDown, in_row}
+use Rattle.band_regions.specs.Bands.{IsBanded, IsFirstLen, IsRestOfBands, EndsBelow, ReachesDown, in_row}
 use Rattle.band_regions.proofs.Bools.{or_false, and_true, and_false}
 use Rattle.band_regions.proofs.ListLemmas.{Pairs, pairs_of, all_pairs_of, pairs_left, pairs_right, pairs_under, each_both, each_weaker, each_left, each_right, any_none, any_same}
 use Rattle.band_regions.proofs.Spanning.{not_before, not_after, spans_from}
@@ -34,6 +34,10 @@ stacked_left xs ys h = record { range = each_left IsInRange xs ys h.range; pixel
 
 pub stacked_right : (xs ys : List Rect) → IsStacked (xs ++ ys) → IsStacked ys
 stacked_right xs ys h = record { range = each_right IsInRange xs ys h.range; pixels = each_right HasPixels xs ys h.pixels; sorted = pairs_right Precedes xs ys h.sorted }
+
+-- what a pattern reads past the end
+abbrev pub no_rect : Rect
+no_rect = record { x = pos 0; y = pos 0; w = 0; h = 0 }
 
 pub cast_y : (rects : List Rect) (d : Rect) → 0 < length rects → All IsInRange rects → to_z w32 (of_z w32 (get_or rects 0 d).y) ≡ (get_or rects 0 d).y
 cast_y rects d l h = let r : IsInRange (get_or rects 0 d) = h 0 d l in omega (arith, ints)
@@ -110,8 +114,16 @@ pub record IsFirstBand (top : ℤ) (n : ℕ) (rects : List Rect) : Type 0 where
   pub in_band : All (λ s. s.y ≡ top) (take n rects)
   pub below : All (λ s. top <ℤ s.y) (drop n rects)
 
-pub first_band : (rects : List Rect) (top from : ℤ) (n : ℕ) → top ≡ from → All (λ s. s.y ≡ top) (take n rects) → All (λ s. top <ℤ s.y) (drop n rects) → IsFirstBand from n rects
-first_band rects top from n e h k = record { in_band = λ i d l. h i d l ∙ e; below = λ i d l. let it = k i d l in omega (arith, ints) }
+pub first_band : (rects : List Rect) (n : ℕ) (d : Rect) → IsFirstLen n rects → IsFirstBand (get_or rects 0 d).y n rects
+first_band rects n d h = record { in_band = h.in_band d; below = h.beyond d }
+
+pub first_len_is : (rects : List Rect) (n : ℕ) (d : Rect) (top : ℤ) → 0 < length rects → top ≡ (get_or rects 0 d).y → n ≤ length rects → All (λ r. r.y ≡ top) (take n rects) → All (λ r. top <ℤ r.y) (drop n rects) → IsFirstLen n rects
+first_len_is [] n d top l e m h k = absurd (omega arith)
+first_len_is (r ∷ rs) n d top l e m h k = record { within = m; in_band = λ _ i d j. h i d j ∙ e; beyond = λ _ i d j. let it = k i d j in omega (arith, ints) }
+
+-- a part of a part
+pub part_is : (last start : ℕ) (rects : List Rect) → last ≤ start → take (start - last) (drop last rects) ≡ drop last (take start rects)
+part_is last start rects l = sym (drop-take last (start - last) rects) ∙ ap (λ k. drop last (take k rects)) (omega arith)
 
 -- its rectangles have the height of the first, and the others start where it ends or below
 record IsParted (r : Rect) (n : ℕ) (rects : List Rect) : Type 0 where
@@ -154,7 +166,7 @@ row_of_band rects top h e = record {
   gapped = all_pairs_of IsLeftOf rects (pairs_under (λ s. HasPixels s × (s.y ≡ top)) Precedes IsLeftOf (gap_in_band top) rects (each_both HasPixels (λ s. s.y ≡ top) (λ s. HasPixels s × (s.y ≡ top)) (λ s p q. (p, q)) rects h.pixels e) h.sorted);
 }
 
-any_parts : (n : ℕ) (rects : List Rect) (p : Point) → any_holds rects p ≡ (any_holds (take n rects) p || any_holds (drop n rects) p)
+pub any_parts : (n : ℕ) (rects : List Rect) (p : Point) → any_holds rects p ≡ (any_holds (take n rects) p || any_holds (drop n rects) p)
 any_parts n rects p = ap (λ xs. any_holds xs p) (sym (take-append-drop n rects)) ∙ list_any-append (λ r. holds r p) (take n rects) (drop n rects)
 
 -- the row of a band is the columns of its points

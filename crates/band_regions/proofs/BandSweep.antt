@@ -1,23 +1,29 @@
 -- The sweep over two lists of bands, row by row at which a band begins or ends.
-use Rattle.std.proofs.Common.{◌≡◌, ℕ, Bool, true, false, ◌||◌, nat_eq, List, [], ◌∷◌, length, take, drop, refl, sym, ap, ◌∙◌, subst, arith}
-use Rattle.std.specs.Prelude.{ℤ, pos, negsuc, ◌+ℤ◌, ◌<ℤ◌, ◌≤ℤ◌}
+use Rattle.std.proofs.Common.{◌≡◌, ℕ, Bool, true, false, ◌||◌, ◌&&◌, nat_eq, List, [], ◌∷◌, ◌++◌, length, take, drop, refl, sym, ap, ◌∙◌, subst, arith}
+use Rattle.std.specs.Prelude.{ℤ, pos, negsuc, not, ◌+ℤ◌, ◌<ℤ◌, ◌≤ℤ◌}
 use Rattle.std.specs.List.{All, AllByRecursion as Each}
 use Rattle.std.proofs.lemmas.Int.{ints, by_lt_z}
-use Rattle.std.proofs.lemmas.List.{take-append-drop}
+use Rattle.std.proofs.lemmas.List.{take-append-drop, take_at, drop_at}
+use Rattle.std.proofs.lemmas.List.Folds.{list_any-append}
 use Rattle.std.proofs.lemmas.List.Elements.{All-from_recursion, recursion_from_All, All-nil, All-head}
 use Rattle.qws_base.specs.Points.{spans, holds, any_holds}
 use Rattle.qws_base.specs.Regions.{bottom, HasPixels}
 use Rattle.qws_base.specs.declared.points.Point.{Point}
 use Rattle.qws_base.specs.declared.points.Rect.{Rect}
 use Rattle.band_regions.specs.declared.operations.Operation.{Operation}
+use Rattle.band_regions.specs.declared.operations.Operation.TheVariants.{Unite, Meet, Minus}
 use Rattle.band_regions.specs.Operations.{keeps}
 use Rattle.band_regions.specs.Ranges.{IsInRange, IsKept}
 use Rattle.band_regions.specs.Rows.{IsBand, IsLevel, has_column}
 use Rattle.band_regions.specs.Bands.{IsBanded, IsRestOfBands, IsSweptTo, EndsBelow, ReachesDown, in_row}
 use Rattle.band_regions.proofs.ListLemmas.{any_none, any_same, each_weaker, each_both, each_append}
 use Rattle.band_regions.proofs.Spanning.{not_before, not_after, spans_from}
-use Rattle.band_regions.proofs.RowSweep.{both_false}
 use Rattle.band_regions.proofs.BandLemmas.{row_no, row_yes}
+
+both_false : (operation : Operation) (a b : Bool) → a ≡ false → b ≡ false → keeps operation a b ≡ false
+both_false Unite a b e f = ap (λ t. t || b) e ∙ f
+both_false Meet a b e f = ap (λ t. t && b) e
+both_false Minus a b e f = ap (λ t. t && not b) e
 
 -- the rows above y are done: what is left of both lists, and the list so far
 pub record IsSwept (operation : Operation) (first second : List Rect) (y : ℤ) (last : ℕ) (first_rest second_rest rects : List Rect) : Type 0 where
@@ -102,6 +108,16 @@ swept_step operation first second y next height last last' f s rects band more r
       ∙ ap (λ t. keeps operation t (has_column row' p.x)) (r p ∙ sym (u p at below) ∙ h.first_left.same p at)
       ∙ ap (λ t. keeps operation (any_holds first p) t) (r' p ∙ sym (v p at below) ∙ h.second_left.same p at));
 }
+
+-- a list that was appended to, by its parts
+pub front_is : (old new band : List Rect) (n : ℕ) → n ≡ length old → new ≡ old ++ band → take n new ≡ old
+front_is old new band n l e = ap (take n) e ∙ take_at old band n (sym l)
+
+pub end_is : (old new band : List Rect) (n : ℕ) → n ≡ length old → new ≡ old ++ band → drop n new ≡ band
+end_is old new band n l e = ap (drop n) e ∙ drop_at old band n (sym l)
+
+pub points_added : (old new band now : List Rect) → new ≡ old ++ band → ((p : Point) → any_holds now p ≡ any_holds new p) → (p : Point) → any_holds now p ≡ (any_holds old p || any_holds band p)
+points_added old new band now e same p = same p ∙ ap (λ xs. any_holds xs p) e ∙ list_any-append (λ r. holds r p) old band
 
 -- where something is left of a list, the sweep is not at its end
 pub more_left : (y : ℤ) (rects rest : List Rect) → IsRestOfBands y rects rest → false ≡ nat_eq (length rest) 0 → y <ℤ pos 32768

@@ -3,10 +3,13 @@ pub mod ListLemmas
 pub mod Spanning
 pub mod SameSpans
 pub mod Uniqueness
-pub mod RowLemmas
-pub mod RowEnds
-pub mod RowSweep
+pub mod RowMerges
 pub mod BandLemmas
 pub mod BandEnds
 pub mod BandSweep
+pub mod BandRuns
 pub mod RegionLemmas
+pub mod Questions
+pub mod Hulls
+pub mod Ascending
+pub mod Corners

@@ -1,5 +1,6 @@
 -- What holds of each element, of each two, and membership, by recursion on the list.
-use Rattle.std.proofs.Common.{◌≡◌, ℕ, ◌<◌, zero, suc, Bool, true, false, cond, ◌||◌, ◌⊎◌, List, [], ◌∷◌, ◌++◌, length, get_or, refl, sym, ap, ◌∙◌, subst, inl, inr, arith, map}
+use Rattle.std.proofs.Common.{◌≡◌, ℕ, ◌<◌, nat_eq, zero, suc, Bool, true, false, cond, ◌||◌, ◌⊎◌, List, [], ◌∷◌, ◌++◌, length, get_or, refl, sym, ap, ◌∙◌, subst, inl, inr, arith, map}
+use Rattle.std.proofs.lemmas.Bool.{eqb-true}
 use Rattle.std.specs.List.{AllPairs, AllByRecursion as Each, list_any, filter}
 use Rattle.std.proofs.lemmas.List.Elements.{All-from_recursion, recursion_from_All}
 
@@ -175,3 +176,13 @@ any_map test was f (x ∷ xs) same = ap (λ b. b || list_any test (map f xs)) (s
 pub nil_of_map : {X Y : Type 0} (f : X → Y) (xs : List X) → map f xs ≡ [] → xs ≡ []
 nil_of_map f [] e = refl
 nil_of_map f (x ∷ xs) e = cc
+
+-- ---- lists that are tested for emptiness
+
+pub no_more : {X : Type 0} (xs : List X) → true ≡ nat_eq (length xs) 0 → xs ≡ []
+no_more [] e = refl
+no_more (x ∷ xs) e = absurd (omega (arith, eqb-true (length (x ∷ xs)) 0 (sym e)))
+
+pub some_more : {X : Type 0} (xs : List X) → false ≡ nat_eq (length xs) 0 → 0 < length xs
+some_more [] e = cc
+some_more (x ∷ xs) e = omega arith

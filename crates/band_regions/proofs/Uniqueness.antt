@@ -14,11 +14,11 @@ use Rattle.band_regions.proofs.ListLemmas.{In, Pairs, pairs_of, pairs_in, pairs_
 use Rattle.band_regions.proofs.Spanning.{low_of, high_of, spans_from, is_equal, equal_is}
 use Rattle.band_regions.proofs.SameSpans.{IsWide, same_spans}
 
-abbrev at : ℤ → ℤ → Point
+abbrev pub at : ℤ → ℤ → Point
 at x y = record { x = x; y = y }
 
 -- a rectangle that a set of points determines: as wide and as high as it can be, in rows that are alike
-record IsPiece (set : Point → Bool) (r : Rect) : Type 0 where
+pub record IsPiece (set : Point → Bool) (r : Rect) : Type 0 where
   pub pixels : HasPixels r
   pub inside : (x y : ℤ) → spans r.x r.w x ≡ true → spans r.y r.h y ≡ true → set (at x y) ≡ true
   pub left_out : (y : ℤ) → spans r.y r.h y ≡ true → set (at (r.x -ℤ pos 1) y) ≡ false
@@ -76,12 +76,12 @@ same_piece set r s p q h =
 -- ---- a rectangle of a canonical list is such a piece
 
 -- a canonical list, its facts by recursion
-record IsGood (rects : List Rect) : Type 0 where
+pub record IsGood (rects : List Rect) : Type 0 where
   pub pixels : Each HasPixels rects
   pub sorted : Pairs Precedes rects
   pub unmerged : (y : ℤ) → map span_of (filter (ends_at y) rects) ≡ map span_of (filter (starts_at y) rects) → filter (starts_at y) rects ≡ []
 
-good : (rects : List Rect) → IsCanonical rects → IsGood rects
+pub good : (rects : List Rect) → IsCanonical rects → IsGood rects
 good rects h = record { pixels = recursion_from_All HasPixels rects h.some_pixels; sorted = pairs_of Precedes rects h.sorted; unmerged = h.unmerged }
 
 -- a row of both: they are one band, and one is the other or they have a gap
@@ -104,12 +104,12 @@ mate rects r s y g m n h k = by_order (pairs_in Precedes rects r s g.sorted m n)
     by_order (inr (inr p)) = let a = precedes_mate s r y k h p in record { top = a.0; height = a.1; place = inr (inr a.2) }
 
 -- which rectangle holds a point
-record IsHolder (rects : List Rect) (x y : ℤ) (s : Rect) : Type 0 where
+pub record IsHolder (rects : List Rect) (x y : ℤ) (s : Rect) : Type 0 where
   pub member : In s rects
   pub column : spans s.x s.w x ≡ true
   pub row : spans s.y s.h y ≡ true
 
-holder : (rects : List Rect) (x y : ℤ) → any_holds rects (at x y) ≡ true → (s : Rect) × IsHolder rects x y s
+pub holder : (rects : List Rect) (x y : ℤ) → any_holds rects (at x y) ≡ true → (s : Rect) × IsHolder rects x y s
 holder rects x y h =
     let found = any_in (λ r. holds r (at x y)) rects h in
     let s = found.0 in
@@ -122,7 +122,7 @@ held rects x y s h = any_from_in (λ r. holds r (at x y)) rects s h.member (and_
 not_held : (rects : List Rect) (x y : ℤ) → ((s : Rect) → IsHolder rects x y s → ⊥) → any_holds rects (at x y) ≡ false
 not_held rects x y h = same_bools (any_holds rects (at x y)) false (λ e. let s = holder rects x y e in absurd (h s.0 s.1)) (λ e. absurd (false≢true e))
 
-first_row : (r : Rect) → HasPixels r → spans r.y r.h r.y ≡ true
+pub first_row : (r : Rect) → HasPixels r → spans r.y r.h r.y ≡ true
 first_row r p = spans_from r.y r.y r.h (omega (arith, ints)) (omega (arith, ints, p.1))
 
 last_row : (r : Rect) → HasPixels r → spans r.y r.h (bottom r -ℤ pos 1) ≡ true
@@ -260,7 +260,7 @@ cut_below rects r g m = record {
 empty_has_none : (xs : List Rect) (r : Rect) → xs ≡ [] → In r xs → ⊥
 empty_has_none xs r e m = subst (In r) e m
 
-piece : (rects : List Rect) (r : Rect) → IsGood rects → In r rects → IsPiece (any_holds rects) r
+pub piece : (rects : List Rect) (r : Rect) → IsGood rects → In r rects → IsPiece (any_holds rects) r
 piece rects r g m = record {
   pixels = pixels;
   inside = λ x y h k. held rects x y r (record { member = m; column = h; row = k });
@@ -304,25 +304,26 @@ same_members (x ∷ xs) (y ∷ ys) p g q k f h =
     by_heads (inr m) (inl e) then = then (sym e)
     by_heads (inr m) (inr n) then = absurd (precedes_not_both x y p.0 q.0 (each_in (Precedes x) xs y g.0 n) (each_in (Precedes y) ys x k.0 m))
 
+-- a piece of a set is one of an equal set
+pub moved : (other set : Point → Bool) (r : Rect) → ((p : Point) → set p ≡ other p) → IsPiece other r → IsPiece set r
+moved other set r same p = record {
+  pixels = p.pixels;
+  inside = λ x y h k. same (at x y) ∙ p.inside x y h k;
+  left_out = λ y h. same (at (r.x -ℤ pos 1) y) ∙ p.left_out y h;
+  right_out = λ y h. same (at (right r) y) ∙ p.right_out y h;
+  alike = λ x y z h k. same (at x y) ∙ p.alike x y z h k ∙ sym (same (at x z));
+  above_differs = λ e. p.above_differs (λ x. sym (same (at x (r.y -ℤ pos 1))) ∙ e x ∙ same (at x r.y));
+  below_differs = λ e. p.below_differs (λ x. sym (same (at x (bottom r -ℤ pos 1))) ∙ e x ∙ same (at x (bottom r)));
+}
+
 into : (xs ys : List Rect) → IsGood xs → IsGood ys → ((p : Point) → any_holds xs p ≡ any_holds ys p) → (r : Rect) → In r xs → In r ys
 into xs ys g k same r m =
     let mine : IsPiece (any_holds xs) r = piece xs r g m in
     let its_x = spans_from r.x r.x r.w (omega (arith, ints)) (omega (arith, ints, mine.pixels.0)) in
     let found = holder ys r.x r.y (sym (same (at r.x r.y)) ∙ mine.inside r.x r.y its_x (first_row r mine.pixels)) in
     let s = found.0 in
-    let theirs : IsPiece (any_holds xs) s = moved s (piece ys s k found.1.member) in
+    let theirs : IsPiece (any_holds xs) s = moved (any_holds ys) (any_holds xs) s same (piece ys s k found.1.member) in
     subst (λ t. In t ys) (same_piece (any_holds xs) r s mine theirs (and_from (spans s.x s.w r.x) (spans s.y s.h r.y) found.1.column found.1.row)) found.1.member
-  where
-    moved : (s : Rect) → IsPiece (any_holds ys) s → IsPiece (any_holds xs) s
-    moved s p = record {
-      pixels = p.pixels;
-      inside = λ x y h k. same (at x y) ∙ p.inside x y h k;
-      left_out = λ y h. same (at (s.x -ℤ pos 1) y) ∙ p.left_out y h;
-      right_out = λ y h. same (at (right s) y) ∙ p.right_out y h;
-      alike = λ x y z h k. same (at x y) ∙ p.alike x y z h k ∙ sym (same (at x z));
-      above_differs = λ e. p.above_differs (λ x. sym (same (at x (s.y -ℤ pos 1))) ∙ e x ∙ same (at x s.y));
-      below_differs = λ e. p.below_differs (λ x. sym (same (at x (bottom s -ℤ pos 1))) ∙ e x ∙ same (at x (bottom s)));
-    }
 
 -- two canonical lists that hold the same points are one
 pub same_lists : (xs ys : List Rect) → IsCanonical xs → IsCanonical ys → ((p : Point) → any_holds xs p ≡ any_holds ys p) → xs ≡ ys

@@ -1,5 +1,5 @@
 -- Bands from the top, and how far a sweep over the rows has come.
-use Rattle.std.specs.Prelude.{ℕ, ◌≡◌, ◌≤◌, ◌+◌, ℤ, ◌<ℤ◌, ◌≤ℤ◌, List, [], map, take, drop, length, All, AllPairs}
+use Rattle.std.specs.Prelude.{ℕ, ◌≡◌, ◌≤◌, ◌+◌, ℤ, ◌<ℤ◌, ◌≤ℤ◌, List, [], map, take, drop, length, slice_index_or, All, AllPairs}
 use Rattle.std.specs.List.{filter}
 use Rattle.qws_base.specs.Points.{any_holds}
 use Rattle.qws_base.specs.Regions.{HasPixels, Precedes, bottom, starts_at, ends_at, span_of}
@@ -28,6 +28,12 @@ pub record IsRestOfBands (y : ℤ) (rects rest : List Rect) : Type 0 where
   pub is_banded : IsBanded rest
   pub ahead : All (EndsBelow y) rest
   pub same : (p : Point) → y ≤ℤ p.y → any_holds rest p ≡ any_holds rects p
+
+-- the first band is the list up to a place
+pub record IsFirstLen (n : ℕ) (rects : List Rect) : Type 0 where
+  pub within : n ≤ length rects
+  pub in_band : (d : Rect) → All (λ r. r.y ≡ (slice_index_or rects 0 d).y) (take n rects)
+  pub beyond : (d : Rect) → All (λ r. (slice_index_or rects 0 d).y <ℤ r.y) (drop n rects)
 
 abbrev pub taller : ℕ → Rect → Rect
 taller height r = record r { h = r.h + height }

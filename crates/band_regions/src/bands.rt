@@ -1,14 +1,14 @@
 //! The bands of a list of rectangles, from the top, and a list that grows by bands at its end.
-ghost use Rattle.std.specs.Prelude.{◌≡◌, ◌≤◌, ◌<◌, ◌+◌, ℕ, ℤ, pos, negsuc, ◌+ℤ◌, ◌<ℤ◌, ◌≤ℤ◌, ◌||◌, ◌^◌, ◌++◌, All, IfOk, IsTrue, ◌↔◌, length, map, take, drop, vec_len};
+ghost use Rattle.std.specs.Prelude.{◌≡◌, ◌≤◌, ◌<◌, ◌+◌, ℕ, ℤ, pos, negsuc, ◌+ℤ◌, ◌<ℤ◌, ◌≤ℤ◌, ◌^◌, ◌++◌, All, IsTrue, ◌↔◌, length, map, take, drop, vec_len};
 ghost use Rattle.qws_base.specs.Points.{any_holds};
 ghost use Rattle.qws_base.specs.Regions.{bottom, span_of};
 ghost use Rattle.qws_base.specs.declared.points.Point.{Point};
 ghost use Rattle.band_regions.specs.Ranges.{IsInRange};
 ghost use Rattle.band_regions.specs.Rows.{IsRow, IsBand, has_column};
-ghost use Rattle.band_regions.specs.Bands.{IsBanded, IsRestOfBands, IsSweptTo, taller, EndsBelow, ReachesDown, in_row};
+ghost use Rattle.band_regions.specs.Bands.{IsBanded, IsRestOfBands, IsFirstLen, IsSweptTo, taller, EndsBelow, ReachesDown, in_row};
 
 use crate::rows::END;
-use qws_base::{OutOfMemory, Rect};
+use qws_base::Rect;
 
 /// One past the last row of a rectangle.
 pub fn bottom_end(rect: &Rect) -> i32
@@ -55,39 +55,52 @@ fn band_len(rects: &[Rect], top: i32) -> usize
     n
 }
 
-/// The spans in a row that no band ends before.
-pub fn row_at(rects: &[Rect], row: i32) -> &[Rect]
+/// How many rectangles the first band has; 0 where there is none.
+pub fn first_len(rects: &[Rect]) -> usize
+    requires { IsBanded rects.now }
+    ensures { IsFirstLen result rects.now }
+{
+    match rects {
+        [] => 0,
+        [rect, ..] => band_len(rects, rect.y),
+    }
+}
+
+/// The spans in a row that no band ends before. The first band has so many rectangles.
+pub fn row_at(rects: &[Rect], count: usize, row: i32) -> &[Rect]
     requires is_banded { IsBanded rects.now }
+    requires count { IsFirstLen count rects.now }
     requires ahead { All (EndsBelow row) rects.now }
     ensures is_row { IsRow result.now }
     ensures columns { (p : Point) → has_column result.now p.x ≡ any_holds rects.now (in_row row p) }
 {
     match rects {
         [] => &[],
-        [rect, ..] => {
-            if rect.y <= row {
-                &rects[..band_len(rects, rect.y)]
-            } else {
-                &[]
-            }
+        [rect, ..] => { if rect.y <= row { &rects[..count] } else { &[] } }
+    }
+}
+
+/// What is left of the bands from the row on, before which none ends, and how many rectangles its first band has. The
+/// first band has so many.
+pub fn past_row(rects: &[Rect], count: usize, row: i32) -> (&[Rect], usize)
+    requires is_banded { IsBanded rects.now }
+    requires count { IsFirstLen count rects.now }
+    requires no_end_before { All (ReachesDown row) rects.now }
+    ensures rest { IsRestOfBands row rects.now result.0.now }
+    ensures count { IsFirstLen result.1 result.0.now }
+{
+    match rects {
+        [] => (rects, count),
+        [rect, ..] if row < bottom_end(rect) => (rects, count),
+        _ => {
+            let rest = &rects[count..];
+            (rest, first_len(rest))
         }
     }
 }
 
-/// What is left of the bands from the row on, before which none ends.
-pub fn past_row(rects: &[Rect], row: i32) -> &[Rect]
-    requires is_banded { IsBanded rects.now }
-    requires no_end_before { All (ReachesDown row) rects.now }
-    ensures { IsRestOfBands row rects.now result.now }
-{
-    match rects {
-        [rect, ..] if bottom_end(rect) <= row => &rects[band_len(rects, rect.y)..],
-        _ => rects,
-    }
-}
-
 /// Whether two bands have the same spans.
-fn has_same_spans(first: &[Rect], second: &[Rect]) -> bool
+pub fn has_same_spans(first: &[Rect], second: &[Rect]) -> bool
     ensures { IsTrue result ↔ (map span_of first.now ≡ map span_of second.now) }
 {
     if first.len() != second.len() {
@@ -113,31 +126,26 @@ fn extend_down(rects: &mut Vec<Rect>, last: usize, height: u32)
     }
 }
 
-/// Appends a band, or merges it with the one that ends where it starts. Gives the place from which on the bands end where
+/// Ends a list of bands by the band from `start` on, which is merged with the one above it where that ends at its top and
+/// has the same spans. The bands from `last` on up to it end at its top. Gives the place from which on the bands end where
 /// it ends.
-pub fn close_band(
-    rects: &mut Vec<Rect>,
-    last: usize,
-    band: &[Rect],
-    top: i32,
-    height: u32,
-) -> Result<usize, OutOfMemory>
-    requires swept { IsSweptTo top last rects.old.items }
-    requires is_band { IsBand top height band.now }
+pub fn close_band(rects: &mut Vec<Rect>, last: usize, start: usize, top: i32, height: u32) -> usize
+    requires start { start ≤ vec_len rects.old }
+    requires swept { IsSweptTo top last (take start rects.old.items) }
+    requires is_band { IsBand top height (drop start rects.old.items) }
     requires some { 0 < height }
     requires low { negsuc 32767 ≤ℤ top }
     requires high { (top +ℤ pos height) ≤ℤ pos 32768 }
-    ensures swept { IfOk result (λ last. IsSweptTo (top +ℤ pos height) last rects.new.items) }
-    ensures points { IfOk result (λ _. (p : Point) → any_holds rects.new.items p ≡ (any_holds rects.old.items p || any_holds band.now p)) }
+    ensures swept { IsSweptTo (top +ℤ pos height) result rects.new.items }
+    ensures points { (p : Point) → any_holds rects.new.items p ≡ any_holds rects.old.items p }
 {
-    if band.is_empty() {
-        return Ok(rects.len());
+    if rects.len() == start {
+        return start;
     }
-    if has_same_spans(&rects[last..], band) {
+    if has_same_spans(&rects[last..start], &rects[start..]) {
+        rects.truncate(start);
         extend_down(rects, last, height);
-        return Ok(last);
+        return last;
     }
-    let start = rects.len();
-    rects.extend_from_slice(band)?;
-    Ok(start)
+    start
 }

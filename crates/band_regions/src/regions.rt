@@ -1,11 +1,14 @@
 //! A set of pixels as its canonical list of rectangles.
-ghost use Rattle.std.specs.Prelude.{◌≡◌, ◌&&◌, ◌||◌, not, pos, ◌+ℤ◌, int_le, IfOk, All};
+ghost use Rattle.std.specs.Prelude.{◌≡◌, ◌↔◌, ◌&&◌, ◌||◌, not, false, [], pos, negsuc, ◌+ℤ◌, int_le, IsTrue, IfOk, IfSome, None, All};
+ghost use Rattle.band_regions.specs.Around.{IsLeastAround};
 ghost use Rattle.qws_base.specs.Points.{holds, any_holds, minus, shifted};
 ghost use Rattle.qws_base.specs.Regions.{IsCanonical, IsRegionOf};
 ghost use Rattle.qws_base.specs.declared.points.Point.{Point};
 ghost use Rattle.band_regions.specs.Ranges.{IsInRange, IsShiftable, shift_of, is_before};
 
+use crate::around::around;
 use crate::operations::Operation;
+use crate::runs::canonical_len;
 use crate::sweeps::sweep;
 use qws_base::{OutOfMemory, Point, Rect};
 use std::alloc::Global;
@@ -45,9 +48,15 @@ impl Region {
                 Ok(region)
             }
             _ => {
-                let half = rects.len() / 2;
-                let first = Region::of_rects(alloc, &rects[..half])?;
-                let second = Region::of_rects(alloc, &rects[half..])?;
+                let count = canonical_len(rects);
+                if count == rects.len() {
+                    return Ok(Region {
+                        rects: rects.to_vec(alloc)?,
+                    });
+                }
+                let cut = count.max(rects.len() / 2);
+                let first = Region::of_rects(alloc, &rects[..cut])?;
+                let second = Region::of_rects(alloc, &rects[cut..])?;
                 let region = first.unite(alloc, &second)?;
                 Ok(region)
             }
@@ -126,6 +135,45 @@ impl Region {
         }
     }
 
+    /// Whether it has no pixel.
+    pub fn is_empty(&self) -> bool
+        ensures list { IsTrue result ↔ (self.now ≡ []) }
+        ensures points { IsTrue result ↔ ((p : Point) → any_holds self.now p ≡ false) }
+    {
+        self.rects.is_empty()
+    }
+
+    /// The least rectangle that holds all its pixels; none where it has no pixel.
+    pub fn bounds(&self) -> Option<Rect>
+        ensures none { (result ≡ None) ↔ (self.now ≡ []) }
+        ensures some { IfSome result (λ r. IsLeastAround r (any_holds self.now)) }
+    {
+        if self.rects.is_empty() {
+            return None;
+        }
+        Some(around(&self.rects))
+    }
+
+    /// Whether the two have the same pixels.
+    pub fn is_same(&self, other: &Region) -> bool
+        ensures list { IsTrue result ↔ (self.now ≡ other.now) }
+        ensures points { IsTrue result ↔ ((p : Point) → any_holds self.now p ≡ any_holds other.now p) }
+    {
+        is_same_list(&self.rects, &other.rects)
+    }
+
+    /// Whether it stays in range when it is moved by so many columns to the right and rows down.
+    pub fn can_shift(&self, dx: i32, dy: i32) -> bool
+        ensures { IsTrue result ↔ All (IsShiftable dx dy) self.now }
+    {
+        for rect in &self.rects {
+            if !is_in_range(rect, dx, dy) {
+                return false;
+            }
+        }
+        true
+    }
+
     /// The canonical list.
     pub fn rects(&self) -> &[Rect]
         ensures value { result.now ≡ self.now }
@@ -134,6 +182,36 @@ impl Region {
     {
         &self.rects
     }
+}
+
+/// Whether two lists have the same rectangles in the same order.
+fn is_same_list(first: &[Rect], second: &[Rect]) -> bool
+    ensures { IsTrue result ↔ (first.now ≡ second.now) }
+{
+    if first.len() != second.len() {
+        return false;
+    }
+    for (i, rect) in first.iter().enumerate() {
+        if *rect != second[i] {
+            return false;
+        }
+    }
+    true
+}
+
+/// Whether a side of so many places, moved by some, starts and ends in range.
+fn is_side_in_range(by: i32, start: i32, count: u32) -> bool
+    ensures { result ≡ (int_le (negsuc 32767) (by +ℤ start) && (int_le (by +ℤ start) (pos 32767) && int_le ((by +ℤ start) +ℤ pos count) (pos 32768))) }
+{
+    let first = i64::from(by) + i64::from(start);
+    first >= -32768 && (first <= 32767 && first + i64::from(count) <= 32768)
+}
+
+/// Whether the rectangle, moved by so many columns to the right and rows down, is in range.
+fn is_in_range(rect: &Rect, dx: i32, dy: i32) -> bool
+    ensures { IsTrue result ↔ IsShiftable dx dy rect.now }
+{
+    is_side_in_range(dx, rect.x, rect.w) && is_side_in_range(dy, rect.y, rect.h)
 }
 
 /// The rectangle moved by so many columns to the right and rows down.

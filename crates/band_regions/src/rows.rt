@@ -1,11 +1,8 @@
-//! One row of spans: the operations on two rows, by one sweep over the columns at which their spans begin and end.
-ghost use Rattle.std.specs.Prelude.{◌≡◌, ◌<◌, ◌+◌, ℕ, ℤ, pos, negsuc, ◌+ℤ◌, ◌<ℤ◌, ◌≤ℤ◌, ◌||◌, All, OnOk};
-ghost use Rattle.std.specs.Bool.{OnTrue, OnFalse};
+//! Rows of spans: the operations on two rows, each by one walk over their whole spans.
+ghost use Rattle.std.specs.Prelude.{◌≡◌, ◌+◌, ℤ, pos, negsuc, ◌+ℤ◌, ◌≤ℤ◌, ◌&&◌, ◌||◌, ◌++◌, not, length, ◌≢◌, OnOk};
 ghost use Rattle.qws_base.specs.Regions.{right};
-ghost use Rattle.band_regions.specs.Operations.{keeps};
-ghost use Rattle.band_regions.specs.Rows.{IsSpan, IsRow, IsBand, IsBandUpTo, IsRestOfRow, EndsRightOf, ReachesRight, ReachesAtMost, EndsLeftOf, LastEndsAt, has_column, is_between};
+ghost use Rattle.band_regions.specs.Rows.{IsSpan, IsRow, IsAdded, IsTaken, has_column, columns_of, start_of_row};
 
-use crate::operations::Operation;
 use qws_base::{OutOfMemory, Rect};
 
 /// The first column and the first row.
@@ -25,106 +22,85 @@ pub fn distance(from: i32, to: i32) -> u32
 }
 
 /// One past the last column of a span.
-fn right_end(span: &Rect) -> i32
+pub fn right_end(span: &Rect) -> i32
     requires { IsSpan span.now }
     ensures { result ≡ right span.now }
 {
     span.x + span.w as i32
 }
 
-/// The next column at which the first span begins or ends; `END` where there is no span.
-fn next_column(row: &[Rect], from: i32) -> i32
-    requires is_row { IsRow row.now }
-    requires ahead { All (EndsRightOf from) row.now }
-    requires low { from <ℤ pos 32768 }
-    ensures after { from <ℤ result }
-    ensures within { result ≤ℤ pos 32768 }
-    ensures no_end_before { All (ReachesRight result) row.now }
-    ensures uniform { (c : ℤ) → from ≤ℤ c → c <ℤ result → has_column row.now c ≡ has_column row.now from }
+/// Where the row starts; `END` where it has no span.
+fn start_of(row: &[Rect]) -> i32
+    requires { IsRow row.now }
+    ensures { result ≡ start_of_row row.now }
 {
     match row {
         [] => END,
-        [span, ..] => {
-            if from < span.x {
-                span.x
-            } else {
-                right_end(span)
-            }
-        }
+        [span, ..] => span.x,
     }
 }
 
-/// Whether the row has the column, which no span lies before.
-fn is_inside(row: &[Rect], column: i32) -> bool
-    requires is_row { IsRow row.now }
-    requires ahead { All (EndsRightOf column) row.now }
-    ensures { result ≡ has_column row.now column }
-{
-    match row {
-        [] => false,
-        [span, ..] => span.x <= column,
-    }
-}
-
-/// What is left of the row from the column on, before which no span ends.
-fn past_column(row: &[Rect], column: i32) -> &[Rect]
-    requires is_row { IsRow row.now }
-    requires no_end_before { All (ReachesRight column) row.now }
-    ensures { IsRestOfRow column row.now result.now }
-{
-    match row {
-        [span, rest @ ..] if right_end(span) <= column => rest,
-        _ => row,
-    }
-}
-
-/// Whether the last span ends at the column, which no span goes past.
-fn touches(row: &[Rect], column: i32) -> bool
-    requires is_row { IsRow row.now }
-    requires behind { All (ReachesAtMost column) row.now }
-    ensures apart { OnFalse result (All (EndsLeftOf column) row.now) }
-    ensures touching { OnTrue result (LastEndsAt column row.now) }
-{
-    match row {
-        [] => false,
-        [.., last] => right_end(last) == column,
-    }
-}
-
-/// Appends the columns to a band that ends where they begin, or before.
-fn push_span(
-    band: &mut Vec<Rect>,
+/// Appends the columns, where there are any, as a span that has those rows.
+fn push_columns(
+    rects: &mut Vec<Rect>,
     from: i32,
     to: i32,
     top: i32,
     height: u32,
 ) -> Result<(), OutOfMemory>
-    requires band { IsBandUpTo from top height band.old.items }
-    requires some { from <ℤ to }
     requires low { negsuc 32767 ≤ℤ from }
     requires high { to ≤ℤ pos 32768 }
-    ensures band { OnOk result (IsBandUpTo to top height band.new.items) }
-    ensures columns { OnOk result ((c : ℤ) → has_column band.new.items c ≡ (has_column band.old.items c || is_between from to c)) }
+    ensures { OnOk result (rects.new.items ≡ rects.old.items ++ columns_of from to top height) }
 {
-    let w = distance(from, to);
-    if touches(band, from) {
-        let last = band.len() - 1;
-        band[last].w += w;
-        return Ok(());
+    if from < to {
+        rects.push(Rect {
+            x: from,
+            y: top,
+            w: distance(from, to),
+            h: height,
+        })?;
     }
-    band.push(Rect {
-        x: from,
-        y: top,
-        w,
-        h: height,
-    })?;
     Ok(())
 }
 
-/// Makes a band of the columns that the operation keeps of two rows.
-pub fn combine(
-    band: &mut Vec<Rect>,
-    operation: Operation,
+/// Appends the columns of a row as a band.
+pub fn copy_row(
+    rects: &mut Vec<Rect>,
+    row: &[Rect],
+    top: i32,
+    height: u32,
+) -> Result<(), OutOfMemory>
+    requires { IsRow row.now }
+    ensures { OnOk result (IsAdded top height rects.old.items rects.new.items (has_column row.now)) }
+{
+    for span in row {
+        rects.push(Rect {
+            x: span.x,
+            y: top,
+            w: span.w,
+            h: height,
+        })?;
+    }
+    Ok(())
+}
+
+/// Takes the first span of two rows, of which there is one, off its row. Gives it and what is left of both.
+fn take_next<'a>(first: &'a [Rect], second: &'a [Rect]) -> (Rect, &'a [Rect], &'a [Rect])
+    requires first { IsRow first.now }
+    requires second { IsRow second.now }
+    requires some { length first.now + length second.now ≢ 0 }
+    ensures { IsTaken result.0 first.now second.now result.1.now result.2.now }
+{
+    if start_of(first) <= start_of(second) {
+        (first[0], &first[1..], second)
+    } else {
+        (second[0], first, &second[1..])
+    }
+}
+
+/// Appends the columns that are in one of two rows as a band.
+pub fn unite_rows(
+    rects: &mut Vec<Rect>,
     first: &[Rect],
     second: &[Rect],
     top: i32,
@@ -132,21 +108,81 @@ pub fn combine(
 ) -> Result<(), OutOfMemory>
     requires first { IsRow first.now }
     requires second { IsRow second.now }
-    ensures band { OnOk result (IsBand top height band.new.items) }
-    ensures columns { OnOk result ((c : ℤ) → has_column band.new.items c ≡ keeps operation (has_column first.now c) (has_column second.now c)) }
+    ensures { OnOk result (IsAdded top height rects.old.items rects.new.items (λ c. has_column first.now c || has_column second.now c)) }
 {
-    band.clear();
+    let mut from = start_of(first).min(start_of(second));
+    let mut to = from;
     let mut first = first;
     let mut second = second;
-    let mut x = FIRST;
     while !first.is_empty() || !second.is_empty() {
-        let next = next_column(first, x).min(next_column(second, x));
-        if operation.keeps(is_inside(first, x), is_inside(second, x)) {
-            push_span(band, x, next, top, height)?;
+        let (span, first_rest, second_rest) = take_next(first, second);
+        if to < span.x {
+            push_columns(rects, from, to, top, height)?;
+            from = span.x;
         }
-        first = past_column(first, next);
-        second = past_column(second, next);
-        x = next;
+        to = to.max(right_end(&span));
+        first = first_rest;
+        second = second_rest;
+    }
+    push_columns(rects, from, to, top, height)
+}
+
+/// Appends the columns that are in both of two rows as a band.
+pub fn meet_rows(
+    rects: &mut Vec<Rect>,
+    first: &[Rect],
+    second: &[Rect],
+    top: i32,
+    height: u32,
+) -> Result<(), OutOfMemory>
+    requires first { IsRow first.now }
+    requires second { IsRow second.now }
+    ensures { OnOk result (IsAdded top height rects.old.items rects.new.items (λ c. has_column first.now c && has_column second.now c)) }
+{
+    let mut first = first;
+    let mut second = second;
+    while !first.is_empty() && !second.is_empty() {
+        let end = right_end(&first[0]);
+        let other_end = right_end(&second[0]);
+        let from = start_of(first).max(start_of(second));
+        push_columns(rects, from, end.min(other_end), top, height)?;
+        if end <= other_end {
+            first = &first[1..];
+        } else {
+            second = &second[1..];
+        }
+    }
+    Ok(())
+}
+
+/// Appends the columns that are in the first row and not in the second as a band.
+pub fn subtract_row(
+    rects: &mut Vec<Rect>,
+    first: &[Rect],
+    second: &[Rect],
+    top: i32,
+    height: u32,
+) -> Result<(), OutOfMemory>
+    requires first { IsRow first.now }
+    requires second { IsRow second.now }
+    ensures { OnOk result (IsAdded top height rects.old.items rects.new.items (λ c. has_column first.now c && not (has_column second.now c))) }
+{
+    let mut first = first;
+    let mut second = second;
+    let mut free = FIRST;
+    while !first.is_empty() {
+        let end = right_end(&first[0]);
+        let next = start_of(second);
+        let from = start_of(first).max(free);
+        push_columns(rects, from, end.min(next), top, height)?;
+        match second {
+            [] => first = &first[1..],
+            [hole, ..] if end <= hole.x => first = &first[1..],
+            [hole, rest @ ..] => {
+                free = right_end(hole);
+                second = rest;
+            }
+        }
     }
     Ok(())
 }

@@ -1,5 +1,5 @@
 use Rattle.std.proofs.Common.{ap, of_z, w32, arith}
-use Rattle.band_regions.proofs.RowLemmas.{no_rect}
+use Rattle.band_regions.proofs.BandLemmas.{no_rect}
 use Rattle.band_regions.proofs.BandEnds.{same_at}
 use Rattle.band_regions.proofs.bands.has_same_spans.Goals as goal
 use Rattle.band_regions.proofs.bands.has_same_spans.Goals.{then-r-s-via-then-r-s, then-r-s-via-else-r-s+then-r-s-2}

@@ -1,7 +1,7 @@
 use Rattle.std.proofs.Common.{◌≡◌, ◌∙◌, sym, to_z, of_z, w32, arith}
 use Rattle.std.proofs.lemmas.Int.{ints}
 use Rattle.band_regions.specs.Bands.{in_row}
-use Rattle.band_regions.proofs.RowLemmas.{no_rect}
+use Rattle.band_regions.proofs.BandLemmas.{no_rect}
 use Rattle.band_regions.proofs.BandLemmas.{cast_y, reach_above, reach_below, none_above, alike_in_band}
 use Rattle.band_regions.proofs.bands.next_row.Goals as goal
 

@@ -3,7 +3,7 @@ use Rattle.std.proofs.lemmas.Int.{ints}
 use Rattle.std.proofs.lemmas.List.{take_all, map_more}
 use Rattle.qws_base.specs.Points.{shifted}
 use Rattle.band_regions.specs.Ranges.{shift_of}
-use Rattle.band_regions.proofs.RowLemmas.{no_rect}
+use Rattle.band_regions.proofs.BandLemmas.{no_rect}
 use Rattle.band_regions.proofs.RegionLemmas.{moved_region}
 use Rattle.band_regions.proofs.regions.Region.shift.Goals as goal
 

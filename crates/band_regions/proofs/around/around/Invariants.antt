@@ -1,0 +1,9 @@
+use Rattle.std.proofs.Common.{take}
+use Rattle.qws_base.specs.Points.{any_holds}
+use Rattle.qws_base.specs.Regions.{HasPixels}
+use Rattle.band_regions.specs.Ranges.{IsInRange}
+use Rattle.band_regions.specs.Around.{IsLeastAround}
+use Rattle.band_regions.proofs.around.around.Given as goal
+
+abbrev pub invariant-loop-i : goal.invariant-loop-i
+invariant-loop-i l = record { around : IsLeastAround l.all (any_holds (take l.i l.rects)); in_range : IsInRange l.all; some_pixels : HasPixels l.all }

@@ -1,0 +1,12 @@
+use Rattle.std.proofs.Common.{◌∙◌, nat_eq, ap, sym}
+use Rattle.qws_base.specs.Points.{any_holds}
+use Rattle.band_regions.proofs.Questions.{empty_of, empty_length}
+use Rattle.band_regions.proofs.ListLemmas.{no_more}
+use Rattle.band_regions.proofs.regions.Region.is_empty.Goals as goal
+
+pub returns-clause-points : goal.returns-clause-points
+returns-clause-points c =
+    let items = c.self.inside.rects.items in (
+      λ e p. ap (λ xs. any_holds xs p) (sym c.self.view_is ∙ no_more items (sym (ap (λ n. nat_eq n 0) (sym c.self.inside.rects.ok.0) ∙ sym c.is_empty.ensures ∙ e))),
+      λ none. c.is_empty.ensures ∙ ap (λ n. nat_eq n 0) c.self.inside.rects.ok.0 ∙ empty_length items (empty_of items c.self.invariant.canonical (λ p. ap (λ xs. any_holds xs p) c.self.view_is ∙ none p)),
+    )

@@ -1,0 +1,10 @@
+use Rattle.std.proofs.Common.{◌&&◌, ◌+◌, length}
+use Rattle.band_regions.specs.Rows.{has_column}
+use Rattle.band_regions.proofs.RowMerges.{IsMeeting}
+use Rattle.band_regions.proofs.rows.meet_rows.Given as goal
+
+abbrev pub invariant-loop-first : goal.invariant-loop-first
+invariant-loop-first l = IsMeeting l.top l.height l.fn.rects.items (λ c. has_column l.fn.first c && has_column l.fn.second c) l.first l.second l.rects.items
+
+abbrev pub decreases-loop-first : goal.decreases-loop-first
+decreases-loop-first l = length l.first + length l.second
