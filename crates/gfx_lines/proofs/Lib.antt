@@ -1,4 +1,5 @@
 pub mod Tests
 pub mod LineLemmas
+pub mod StepLemmas
 pub mod RowLemmas
 pub mod ReachLemmas

@@ -1,10 +1,10 @@
 -- Rows of lines.
-use Rattle.std.proofs.Common.{ℕ, ◌≡◌, ◌≢◌, ◌+◌, ◌<◌, ◌≤◌, ℤ, pos, ◌+ℤ◌, ◌-ℤ◌, ◌≤ℤ◌, ◌<ℤ◌, Bool, true, false, ◌&&◌, ◌||◌, cond, ltb, zero, suc, List, [], ◌∷◌, length, take, get_or, set, length-set, get_or-set_same, get_or-set_other, refl, sym, ap, subst, ◌∙◌, arith, ◌⊎◌, inl, inr}
+use Rattle.std.proofs.Common.{ℕ, ◌≡◌, ◌≢◌, ◌+◌, ◌*◌, ◌/◌, ◌%◌, max, min, ◌<◌, ◌≤◌, ℤ, pos, ◌+ℤ◌, ◌-ℤ◌, ◌≤ℤ◌, ◌<ℤ◌, Bool, true, false, ◌&&◌, ◌||◌, cond, ltb, zero, suc, List, [], ◌∷◌, length, take, get_or, set, length-set, get_or-set_same, get_or-set_other, refl, sym, ap, subst, ◌∙◌, arith, ◌⊎◌, inl, inr}
 use Rattle.std.proofs.lemmas.Int.{ints, clamps}
 use Rattle.std.proofs.lemmas.Bool.{cases_eq}
 use Rattle.std.proofs.lemmas.Bool.Decides.{Decides-int_eq, nat_tests}
 use borrow.Author.Tests.{ltb-true}
-use Rattle.std.proofs.lemmas.List.{get_or_read, get_or_default}
+use Rattle.std.proofs.lemmas.List.{get_or_default}
 use Rattle.std.specs.Int.{int_max, int_min}
 use Rattle.std.specs.Ordering.{int_eq}
 use Rattle.qws_base.specs.declared.points.Point.{Point}
@@ -12,9 +12,9 @@ use Rattle.qws_base.specs.declared.inks.Ink.{Ink}
 use Rattle.qws_base.specs.declared.inks.Ink.TheVariants.{Skip}
 use Rattle.gfx_lines.specs.Lines.{apart, toward, aside, is_flat, is_steep, on_line}
 use Rattle.gfx_lines.specs.Strokes.{on_lines_from, on_polyline}
-use Rattle.gfx_lines.specs.Walks.{IsWalk, IsSteps, IsLaid}
+use Rattle.gfx_lines.specs.Walks.{IsWalk, IsSteps, AreStepsGone, AreRowSteps, IsLaid}
 use Rattle.gfx_lines.proofs.Tests.{equal, unequal, false_right, true_right, never, both_true, true_both, same_test, found}
-use Rattle.gfx_lines.proofs.LineLemmas.{aside_of_walk, toward_apart, flat_line, steep_line, dot_line, slope_at, slope_off}
+use Rattle.gfx_lines.proofs.LineLemmas.{aside_of_walk, gone_within, toward_apart, flat_line, steep_line, dot_line, slope_at, slope_off}
 
 -- ---- the steps whose coordinates are asked for
 
@@ -141,24 +141,18 @@ flat_found a b p h t =
     let n : apart a.x p.x ≡ f.0 = ap (apart a.x) (sym e) ∙ toward_apart a.x b.x f.0 f.1 in
     (omega (arith, f.1), ap (toward a.x b.x) n ∙ e)
 
-pub flat_start : (a b : Point) (y x : ℤ) (ink : Ink) (out : List Ink) (first end : ℕ) → is_flat a b ≡ true → IsSteps a.x b.x x (length out) first end → IsLaid (before a b first) ink y x out out
-flat_start a b y x ink out first end h s = laid_none (before a b first) ink y x out (λ j below. never _ (λ t.
+pub flat_start : (a b : Point) (y x : ℤ) (ink : Ink) (out : List Ink) (first end : ℕ) → AreRowSteps a b y x (length out) first end → IsLaid (before a b first) ink y x out out
+flat_start a b y x ink out first end s = laid_none (before a b first) ink y x out (λ j below. never _ (λ t.
     let p = both_true (on_line a b (pixel y x j)) (ltb (apart a.x (x +ℤ pos j)) first) t in
-    let f = flat_found a b (pixel y x j) h p.0 in
-    absurd (omega (arith, ltb-true, p.1, s.not_before (apart a.x (x +ℤ pos j)) f.0 (omega (arith, ints, f.1)) (omega (arith, ints, f.1))))))
+    absurd (omega (arith, ltb-true, p.1, (s.all j below p.0).0))))
 
-pub flat_none : (a b : Point) (y x : ℤ) (ink : Ink) (out : List Ink) (first end : ℕ) → 0 < apart a.x b.x → apart a.y b.y ≤ apart a.x b.x → IsSteps a.x b.x x (length out) first end
-    → end ≤ first → IsLaid (on_line a b) ink y x out out
-flat_none a b y x ink out first end some flat s none = laid_none (on_line a b) ink y x out (λ j below. never _ (λ t.
-    let f = flat_found a b (pixel y x j) (flat_from a b some flat) t in
-    absurd (omega (arith, s.not_before (apart a.x (x +ℤ pos j)) f.0 (omega (arith, ints, f.1)) (omega (arith, ints, f.1)), s.not_after (apart a.x (x +ℤ pos j)) f.0 (omega (arith, ints, f.1)) (omega (arith, ints, f.1))))))
+pub flat_none : (a b : Point) (y x : ℤ) (ink : Ink) (out : List Ink) (first end : ℕ) → AreRowSteps a b y x (length out) first end → end ≤ first → IsLaid (on_line a b) ink y x out out
+flat_none a b y x ink out first end s none = laid_none (on_line a b) ink y x out (λ j below. never _ (λ t. let f = s.all j below t in absurd (omega (arith, f.0, f.1))))
 
-pub flat_end : (a b : Point) (y x : ℤ) (ink : Ink) (was now : List Ink) (first end : ℕ) → is_flat a b ≡ true → IsSteps a.x b.x x (length was) first end
-    → IsLaid (before a b end) ink y x was now → IsLaid (on_line a b) ink y x was now
-flat_end a b y x ink was now first end h s laid = laid_as (before a b end) (on_line a b) ink y x was now (λ j below. same_test _ _
+pub flat_end : (a b : Point) (y x : ℤ) (ink : Ink) (was now : List Ink) (first end : ℕ) → AreRowSteps a b y x (length was) first end → IsLaid (before a b end) ink y x was now → IsLaid (on_line a b) ink y x was now
+flat_end a b y x ink was now first end s laid = laid_as (before a b end) (on_line a b) ink y x was now (λ j below. same_test _ _
     (λ t. (both_true (on_line a b (pixel y x j)) (ltb (apart a.x (x +ℤ pos j)) end) t).0)
-    (λ t. let f = flat_found a b (pixel y x j) h t in
-    true_both _ _ t (ltb-true_from (s.not_after (apart a.x (x +ℤ pos j)) f.0 (omega (arith, ints, f.1)) (omega (arith, ints, f.1))))))
+    (λ t. true_both _ _ t (ltb-true_from (s.all j below t).1)))
     laid
 
 pub flat_more : (a b : Point) (y x : ℤ) (ink : Ink) (was now : List Ink) (k j gone : ℕ) → is_flat a b ≡ true → k ≤ apart a.x b.x → j < length was → x +ℤ pos j ≡ toward a.x b.x k
@@ -177,15 +171,60 @@ flat_more a b y x ink was now k j gone h few within e so laid =
     true_both _ _ p.0 (ltb-true_from (below_other (apart a.x (x +ℤ pos i)) k (omega (arith, ltb-true, p.1)) (λ q. away (same_place x i j (sym f.1 ∙ ap (toward a.x b.x) q ∙ sym e)))))))
 
 -- what a step along the row writes
-pub flat_step : (a b : Point) (y x : ℤ) (ink : Ink) (was now : List Ink) (k j long short gone error : ℕ) (row : ℤ) (old new : Ink) → 0 < apart a.x b.x → apart a.y b.y ≤ apart a.x b.x
-    → k ≤ apart a.x b.x → j < length now → x +ℤ pos j ≡ toward a.x b.x k → long ≡ apart a.x b.x → short ≡ apart a.y b.y → IsWalk long short k gone error
-    → row ≡ toward a.y b.y gone → old ≡ get_or now j old → new ≡ cond (int_eq row y) ink old → IsLaid (before a b k) ink y x was now
-    → IsLaid (before a b (k + 1)) ink y x was (set now j new)
-flat_step a b y x ink was now k j long short gone error row old new some flat few within e l m w r o v laid =
-    let so : aside (apart a.x b.x) (apart a.y b.y) k ≡ gone = ap (λ n. aside n (apart a.y b.y) k) (sym l) ∙ ap (λ n. aside long n k) (sym m) ∙ aside_of_walk long short k gone error w in
-    let is : new ≡ cond (int_eq (toward a.y b.y gone) y) ink (get_or now j Skip) = v ∙ ap (λ z. cond (int_eq z y) ink old) r ∙ ap (λ t. cond (int_eq (toward a.y b.y gone) y) ink t) (get_or_read now j old within o Skip) in
-    subst (λ t. IsLaid (before a b (k + 1)) ink y x was (set now j t)) (sym is)
-    (flat_more a b y x ink was now k j gone (flat_from a b some flat) few (omega (arith, laid.same_length)) e so laid)
+pub flat_step : (a b : Point) (y x : ℤ) (ink : Ink) (was now : List Ink) (n first end k j : ℕ) → is_flat a b ≡ true → AreRowSteps a b y x n first end → first ≤ k → k < end → j < length was → x +ℤ pos j ≡ toward a.x b.x k
+    → IsLaid (before a b k) ink y x was now → IsLaid (before a b (k + 1)) ink y x was (set now j ink)
+flat_step a b y x ink was now n first end k j h s l m within e laid =
+    subst (λ t. IsLaid (before a b (k + 1)) ink y x was (set now j (cond t ink (get_or now j Skip)))) (equal (toward a.y b.y (aside (apart a.x b.x) (apart a.y b.y) k)) y (s.row k l m))
+    (flat_more a b y x ink was now k j (aside (apart a.x b.x) (apart a.y b.y) k) h (omega (arith, s.within)) within e refl laid)
+
+-- ---- the steps in a row
+
+aside_within : (long short k : ℕ) → 0 < long → k ≤ long → aside long short k ≤ short
+aside_within long short k some h = gone_within long short k ((2 * k * short + long) / (2 * long)) ((2 * k * short + long) % (2 * long)) (record { sum = omega arith; below = omega arith }) h
+
+-- where a flat line is in the row at a place
+in_row : (a b p : Point) → is_flat a b ≡ true → on_line a b p ≡ true → toward a.y b.y (aside (apart a.x b.x) (apart a.y b.y) (apart a.x p.x)) ≡ p.y
+in_row a b p h t =
+    let f = flat_found a b p h t in
+    (Decides-int_eq _ _).0 (sym (slope_at a.x b.x a.y b.y p.x p.y (apart a.x p.x) f.0 f.1) ∙ sym (flat_line a b p h) ∙ t)
+
+toward_back : (from to at : ℤ) → int_min from to ≤ℤ at → at ≤ℤ int_max from to → toward from to (apart from at) ≡ at
+toward_back from to at l m = grind (arith, ints, clamps)
+
+toward_within : (from to at : ℤ) (k : ℕ) → k ≤ apart from to → toward from to k ≡ at → (int_min from to ≤ℤ at) × (at ≤ℤ int_max from to)
+toward_within from to at k h e = (grind (arith, ints, clamps), grind (arith, ints, clamps))
+
+-- a row above the line or below it has none of it
+pub flat_off : (a b : Point) (y x : ℤ) (ink : Ink) (out : List Ink) → 0 < apart a.x b.x → apart a.y b.y ≤ apart a.x b.x → (y <ℤ int_min a.y b.y) ⊎ (int_max a.y b.y <ℤ y) → IsLaid (on_line a b) ink y x out out
+flat_off a b y x ink out some flat off = laid_none (on_line a b) ink y x out (λ j below. never _ (λ t.
+    let h = flat_from a b some flat in
+    let f = flat_found a b (pixel y x j) h t in
+    let w = toward_within a.y b.y y (aside (apart a.x b.x) (apart a.y b.y) (apart a.x (x +ℤ pos j))) (aside_within (apart a.x b.x) (apart a.y b.y) (apart a.x (x +ℤ pos j)) some f.0) (in_row a b (pixel y x j) h t) in
+    absurd (outside off w.0 w.1)))
+  where
+    outside : (y <ℤ int_min a.y b.y) ⊎ (int_max a.y b.y <ℤ y) → int_min a.y b.y ≤ℤ y → y ≤ℤ int_max a.y b.y → ⊥
+    outside (inl l) u v = omega (arith, ints)
+    outside (inr l) u v = omega (arith, ints)
+
+pub row_steps : (a b : Point) (y x : ℤ) (n first end row_first row_end long short gone : ℕ) → 0 < apart a.x b.x → apart a.y b.y ≤ apart a.x b.x → int_min a.y b.y ≤ℤ y → y ≤ℤ int_max a.y b.y
+    → long ≡ apart a.x b.x → short ≡ apart a.y b.y → gone ≡ apart a.y y → IsSteps a.x b.x x n first end → AreStepsGone long short gone row_first row_end → AreRowSteps a b y x n (max first row_first) (min end row_end)
+row_steps a b y x n first end row_first row_end long short gone some flat l m e f g s r =
+    let h = flat_from a b some flat in
+    record {
+      within = omega (arith, s.within);
+      low = λ k i j. s.low k (omega arith) (omega arith);
+      high = λ k i j. s.high k (omega arith) (omega arith);
+      row = λ k i j. ap (toward a.y b.y) (sym (ap (λ u. aside u short k) e ∙ ap (λ u. aside (apart a.x b.x) u k) f) ∙ r.inside k (omega arith) (omega arith) (omega (arith, s.within)) ∙ g) ∙ toward_back a.y b.y y l m;
+      all = λ j below t.
+          let q = flat_found a b (pixel y x j) h t in
+          let k : ℕ = apart a.x (x +ℤ pos j) in
+          let away : aside long short (apart a.x (x +ℤ pos j)) ≡ gone =
+          ap (λ u. aside u short (apart a.x (x +ℤ pos j))) e ∙ ap (λ u. aside (apart a.x b.x) u (apart a.x (x +ℤ pos j))) f
+          ∙ sym (toward_apart a.y b.y (aside (apart a.x b.x) (apart a.y b.y) (apart a.x (x +ℤ pos j))) (aside_within (apart a.x b.x) (apart a.y b.y) (apart a.x (x +ℤ pos j)) some q.0))
+          ∙ ap (apart a.y) (in_row a b (pixel y x j) h t) ∙ sym g in
+          let w = r.all (apart a.x (x +ℤ pos j)) (omega (arith, q.0)) away in
+          (omega (arith, w.0, s.not_before (apart a.x (x +ℤ pos j)) q.0 (omega (arith, ints, q.1)) (omega (arith, ints, q.1))), omega (arith, w.1, s.not_after (apart a.x (x +ℤ pos j)) q.0 (omega (arith, ints, q.1)) (omega (arith, ints, q.1))));
+    }
 
 pub dot_row : (a b : Point) (y x : ℤ) (ink : Ink) (was now : List Ink) (column : ℤ) → apart a.x b.x ≤ 0 → apart a.y b.y ≤ apart a.x b.x → a.y ≡ y → column ≡ a.x
     → IsLaid (λ p. int_eq column p.x) ink y x was now → IsLaid (on_line a b) ink y x was now

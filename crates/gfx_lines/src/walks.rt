@@ -1,14 +1,14 @@
-//! Rows of a line, by a running error term.
-ghost use Rattle.std.specs.Prelude.{◌≡◌, ◌+◌, ◌*◌, ◌<◌, ◌≤◌, ◌-ℤ◌, ◌+ℤ◌, ◌≤ℤ◌, ◌<ℤ◌, pos, negsuc, length, slice_index_or, EachIndex, if◌then◌else◌};
+//! Rows of a line. Of a flat line a row has a run of steps, which two divisions give.
+ghost use Rattle.std.specs.Prelude.{ℕ, ◌≡◌, ◌+◌, ◌*◌, ◌<◌, ◌≤◌, ◌-ℤ◌, ◌+ℤ◌, ◌≤ℤ◌, ◌<ℤ◌, pos, negsuc, length, slice_index_or, EachIndex};
 ghost use Rattle.std.specs.List.{All};
 ghost use Rattle.std.specs.Int.{int_max, int_min};
 ghost use Rattle.std.specs.Ordering.{int_eq};
 ghost use Rattle.qws_base.specs.Points.{IsPlaced};
 ghost use Rattle.qws_base.specs.Sheets.{IsRow};
 ghost use Rattle.qws_base.specs.declared.inks.Ink.TheVariants.{Skip, Copy};
-ghost use Rattle.gfx_lines.specs.Lines.{apart, toward, on_line};
+ghost use Rattle.gfx_lines.specs.Lines.{apart, toward, aside, on_line};
 ghost use Rattle.gfx_lines.specs.Strokes.{on_polyline};
-ghost use Rattle.gfx_lines.specs.Walks.{IsWalk, IsSteps, IsLaid};
+ghost use Rattle.gfx_lines.specs.Walks.{IsWalk, IsSteps, AreStepsGone, AreRowSteps, IsLaid};
 
 use qws_base::{Ink, Point, Rgb};
 
@@ -51,22 +51,6 @@ impl Walk {
         Walk {
             gone: sum / (2 * long),
             error: sum % (2 * long),
-        }
-    }
-
-    // One step more.
-    fn step(&mut self, long: u32, short: u32)
-        requires long { long ≤ 8191 }
-        requires short { short ≤ long }
-        requires gone { self.old.gone ≤ 8191 }
-        requires below { self.old.error < 2 * long }
-        ensures sum { self.new.gone * (2 * long) + self.new.error ≡ self.old.gone * (2 * long) + self.old.error + 2 * short }
-        ensures below { self.new.error < 2 * long }
-    {
-        self.error += 2 * short;
-        if self.error >= 2 * long {
-            self.error -= 2 * long;
-            self.gone += 1;
         }
     }
 }
@@ -121,32 +105,75 @@ fn place(column: i32, x: i32) -> usize
     (column - x) as usize
 }
 
-// The colour where the line's row is the one asked for, and what was there where not.
-fn ink_if_row(row: i32, y: i32, c: Rgb, was: Ink) -> Ink
-    ensures { result ≡ (if int_eq row y then Copy c else was) }
+// The first step at which a line has gone so far along its shorter side: where it is nearest so far, halves up.
+fn first_step(long: u32, short: u32, gone: u32) -> u32
+    requires some { 0 < long }
+    requires long { long ≤ 8191 }
+    requires short { 0 < short }
+    requires within { short ≤ 8191 }
+    requires gone { gone ≤ 8192 }
+    ensures reached { (k : ℕ) → result ≤ k → gone ≤ aside long short k }
+    ensures before { (k : ℕ) → k < result → aside long short k < gone }
 {
-    if row == y { Ink::Copy { c } } else { was }
+    if gone == 0 {
+        return 0;
+    }
+    ((2 * gone - 1) * long + 2 * short - 1) / (2 * short)
 }
 
-// Lays a line of as many columns as rows or more, from a step up to another: each step is a column of the row.
+// The steps at which a line has gone just so far along its shorter side: from the first up to the second.
+fn steps_gone(long: u32, short: u32, gone: u32) -> (u32, u32)
+    requires some { 0 < long }
+    requires long { long ≤ 8191 }
+    requires short { short ≤ 8191 }
+    requires gone { gone ≤ short }
+    ensures { AreStepsGone long short gone result.0 result.1 }
+{
+    if short == 0 {
+        return (0, long + 1);
+    }
+    (
+        first_step(long, short, gone),
+        first_step(long, short, gone + 1),
+    )
+}
+
+// Lays steps of a line of as many columns as rows or more: each of them is a column of the row.
 fn lay_steps(from: Point, to: Point, c: Rgb, y: i32, x: i32, first: u32, end: u32, out: &mut [Ink])
     requires from { IsPlaced from }
     requires to { IsPlaced to }
     requires row { IsRow y x (length out.old) }
     requires some { 0 < apart from.x to.x }
     requires flat { apart from.y to.y ≤ apart from.x to.x }
-    requires steps { IsSteps from.x to.x x (length out.old) first end }
+    requires steps { AreRowSteps from to y x (length out.old) first end }
     requires any { first < end }
+    ensures { IsLaid (on_line from to) (Copy c) y x out.old out.new }
+{
+    for k in first..end {
+        let j = place(toward(from.x, to.x, k), x);
+        out[j] = Ink::Copy { c };
+    }
+}
+
+// Lays a line of as many columns as rows or more, in a row from its first to its last.
+fn lay_run(from: Point, to: Point, c: Rgb, y: i32, x: i32, out: &mut [Ink])
+    requires from { IsPlaced from }
+    requires to { IsPlaced to }
+    requires row { IsRow y x (length out.old) }
+    requires some { 0 < apart from.x to.x }
+    requires flat { apart from.y to.y ≤ apart from.x to.x }
+    requires top { int_min from.y to.y ≤ℤ y }
+    requires bottom { y ≤ℤ int_max from.y to.y }
     ensures { IsLaid (on_line from to) (Copy c) y x out.old out.new }
 {
     let long = from.x.abs_diff(to.x);
     let short = from.y.abs_diff(to.y);
-    let mut walk = Walk::start(long, short, first);
-    for k in first..end {
-        let j = place(toward(from.x, to.x, k), x);
-        let row = toward(from.y, to.y, walk.gone);
-        out[j] = ink_if_row(row, y, c, out[j]);
-        walk.step(long, short);
+    let (row_first, row_end) = steps_gone(long, short, from.y.abs_diff(y));
+    let (first, end) = steps_within(from.x, to.x, x, out.len());
+    let first = first.max(row_first);
+    let end = end.min(row_end);
+    if first < end {
+        lay_steps(from, to, c, y, x, first, end, out);
     }
 }
 
@@ -159,9 +186,8 @@ fn lay_flat(from: Point, to: Point, c: Rgb, y: i32, x: i32, out: &mut [Ink])
     requires flat { apart from.y to.y ≤ apart from.x to.x }
     ensures { IsLaid (on_line from to) (Copy c) y x out.old out.new }
 {
-    let (first, end) = steps_within(from.x, to.x, x, out.len());
-    if first < end {
-        lay_steps(from, to, c, y, x, first, end, out);
+    if from.y.min(to.y) <= y && y <= from.y.max(to.y) {
+        lay_run(from, to, c, y, x, out);
     }
 }
 

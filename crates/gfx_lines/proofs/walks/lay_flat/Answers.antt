@@ -1,13 +1,19 @@
-use Rattle.std.proofs.Common.{◌≡◌, to_z, of_z, w32, arith}
-use Rattle.std.proofs.lemmas.Int.{ints}
+use Rattle.std.proofs.Common.{inl, inr, arith}
+use Rattle.std.proofs.lemmas.Int.{ints, clamps}
 use Rattle.qws_base.specs.declared.inks.Ink.TheVariants.{Copy}
-use Rattle.gfx_lines.proofs.RowLemmas.{flat_none}
+use Rattle.gfx_lines.proofs.RowLemmas.{flat_off}
 use Rattle.gfx_lines.proofs.walks.lay_flat.Goals as goal
+use Rattle.gfx_lines.proofs.walks.lay_flat.Goals.{else-min-y-via-then-min-y+else-y-max, else-min-y-via-else-min-y}
 
-pub returns-else-first-end : goal.returns-else-first-end
-returns-else-first-end c =
-    let x : to_z w32 (of_z w32 c.args.x) ≡ c.args.x = omega (arith, ints) in
-    let from_x : to_z w32 (of_z w32 c.args.from.x) ≡ c.args.from.x = omega (arith, ints) in
-    let to_x : to_z w32 (of_z w32 c.args.to.x) ≡ c.args.to.x = omega (arith, ints) in
-    flat_none c.args.from c.args.to c.args.y c.args.x (Copy c.args.c) c.args.out.now c.steps_within-first.result.0 c.steps_within-first.result.1 c.requires.some c.requires.flat
-    (rw (from_x, to_x, x) at c.steps_within-first.ensures) c.if-first-end.false
+pub lay_run-requires-clause-top : goal.lay_run-requires-clause-top
+lay_run-requires-clause-top c = omega (arith, ints, clamps, c.min.ensures.value)
+
+pub lay_run-requires-clause-bottom : goal.lay_run-requires-clause-bottom
+lay_run-requires-clause-bottom c = omega (arith, ints, clamps, c.max.ensures.value)
+
+pub returns-else-min-y : goal.returns-else-min-y
+returns-else-min-y c =
+    flat_off c.args.from c.args.to c.args.y c.args.x (Copy c.args.c) c.args.out.now c.requires.some c.requires.flat (elim c.else-min-y.branch [
+      | else-min-y-via-then-min-y+else-y-max w ↦ inr (omega (arith, ints, clamps, w.max.ensures.value, w.if-y-max.false))
+      | else-min-y-via-else-min-y w ↦ inl (omega (arith, ints, clamps, c.min.ensures.value, w.if-min-y.false))
+    ])
