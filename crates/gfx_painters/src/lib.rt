@@ -2,5 +2,7 @@
 #![tactic(auto)]
 
 mod paints;
+mod plain;
 
 pub use paints::Paint;
+pub use plain::{is_on_canvas, paint_plain};

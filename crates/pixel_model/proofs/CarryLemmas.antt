@@ -1,5 +1,6 @@
 -- In which direction a move carries pixels.
 use Rattle.std.proofs.Common.{◌≡◌, ℕ, ◌+◌, ◌*◌, ◌/◌, ◌%◌, ◌<◌, ◌≤◌, ◌⊎◌, ℤ, pos, ◌-ℤ◌, ◌<ℤ◌, ◌≤ℤ◌, nat_abs, int_le, int_lt, ◌+ℤ◌, Bool, true, false, cond, ◌&&◌, Option, None, Some, refl, sym, ap, ◌∙◌, subst, arith, inl, inr}
+use Rattle.std.proofs.lemmas.Bool.{and_parts}
 use Rattle.std.proofs.lemmas.Int.{ints}
 use Rattle.std.proofs.lemmas.Nat.{mul-add-lt, div-add-mod'}
 use Rattle.std.proofs.lemmas.Option.{cond_some}
@@ -9,9 +10,10 @@ use Rattle.qws_base.specs.Points.{spans, is_on_screen, pixel_at, point_of, minus
 use Rattle.qws_base.specs.Windows.{Layout, owns}
 use Rattle.qws_base.specs.Scenes.{source_in, carried_from}
 use Rattle.qws_base.specs.declared.points.Point.{Point}
+use Rattle.qws_base.proofs.Integers.{spans_low}
 use Rattle.pixel_model.specs.Directions.{GoesOn, GoesBack}
 use Rattle.pixel_model.specs.Drawn.{CarriesDown, CarriesUp}
-use Rattle.pixel_model.proofs.Pixels.{both, span_bound}
+use Rattle.pixel_model.proofs.Pixels.{span_bound}
 
 -- a pixel in an earlier row, or in the same row and not later
 rows_order : (w Y X y x : ℕ) → x < w → (y < Y) ⊎ ((y ≡ Y) × (x ≤ X)) → y * w + x ≤ Y * w + X
@@ -33,11 +35,8 @@ is_source size before after slot p q is =
     let shift : Point = minus (after.origin slot) (before.origin slot) in
     let at : Point = minus (point_of size.w p) shift in
     let found = cond_some (is_on_screen size at) (nat_abs at.y * size.w + nat_abs at.x) q (source_some size before after slot p q (pixel_at size at) is) in
-    let sides = both (spans (pos 0) size.w at.x) (spans (pos 0) size.h at.y) found.0 in
+    let sides = and_parts (spans (pos 0) size.w at.x) (spans (pos 0) size.h at.y) found.0 in
     record { in_row = sides.0; in_column = sides.1; place = found.1 }
-
-starts : (n : ℕ) (at : ℤ) → spans (pos 0) n at ≡ true → pos 0 ≤ℤ at
-starts n at h = let parts = both (int_le (pos 0) at) (int_lt at (pos 0 +ℤ pos n)) h in grind (arith, ints)
 
 earlier : (Y X : ℕ) (shift : Point) → pos 0 ≤ℤ (pos Y -ℤ shift.y) → pos 0 ≤ℤ (pos X -ℤ shift.x) → GoesOn shift → (nat_abs (pos Y -ℤ shift.y) < Y) ⊎ ((nat_abs (pos Y -ℤ shift.y) ≡ Y) × (nat_abs (pos X -ℤ shift.x) ≤ X))
 earlier Y X shift row column (inl down) = inl (grind (arith, ints))
@@ -52,7 +51,7 @@ carries_up size before after slot on p q is =
     let shift : Point = minus (after.origin slot) (before.origin slot) in
     let source = is_source size before after slot p q is in
     let order = rows_order size.w (p / size.w) (p % size.w) (nat_abs (pos (p / size.w) -ℤ shift.y)) (nat_abs (pos (p % size.w) -ℤ shift.x)) (span_bound size.w (pos (p % size.w) -ℤ shift.x) source.in_row)
-    (earlier (p / size.w) (p % size.w) shift (starts size.h (pos (p / size.w) -ℤ shift.y) source.in_column) (starts size.w (pos (p % size.w) -ℤ shift.x) source.in_row) on) in
+    (earlier (p / size.w) (p % size.w) shift (spans_low (pos 0) (pos (p / size.w) -ℤ shift.y) size.h source.in_column) (spans_low (pos 0) (pos (p % size.w) -ℤ shift.x) size.w source.in_row) on) in
     omega (arith, order, source.place, div-add-mod' p size.w)
 
 pub carries_down : (size : Sides) (before after : Layout) (slot : ℕ) → GoesBack (minus (after.origin slot) (before.origin slot)) → CarriesDown size before after (Some slot)
@@ -61,7 +60,7 @@ carries_down size before after slot back p q is =
     let source = is_source size before after slot p q is in
     let wide : 0 < size.w = omega (arith, span_bound size.w (pos (p % size.w) -ℤ shift.x) source.in_row) in
     let order = rows_order size.w (nat_abs (pos (p / size.w) -ℤ shift.y)) (nat_abs (pos (p % size.w) -ℤ shift.x)) (p / size.w) (p % size.w) (mod-lt p wide)
-    (later (p / size.w) (p % size.w) shift (starts size.h (pos (p / size.w) -ℤ shift.y) source.in_column) (starts size.w (pos (p % size.w) -ℤ shift.x) source.in_row) back) in
+    (later (p / size.w) (p % size.w) shift (spans_low (pos 0) (pos (p / size.w) -ℤ shift.y) size.h source.in_column) (spans_low (pos 0) (pos (p % size.w) -ℤ shift.x) size.w source.in_row) back) in
     omega (arith, order, source.place, div-add-mod' p size.w)
 
 pub nothing_carried : (size : Sides) (before after : Layout) → CarriesDown size before after None

@@ -1,6 +1,6 @@
 //! The canvas: a picture with its screen.
-ghost use Rattle.std.specs.Prelude.{◌≡◌, ◌<◌, All, slice_index, slice_set, IfOk};
-ghost use Rattle.qws_base.specs.Colours.{IsSceneColour, scene_colour};
+ghost use Rattle.std.specs.Prelude.{◌≡◌, ◌<◌, ◌↔◌, IsTrue, All, length, slice_index, slice_set, IfOk};
+ghost use Rattle.qws_base.specs.Colours.{IsSceneColour};
 ghost use Rattle.qws_base.specs.Inks.{ink_after};
 ghost use Rattle.qws_base.specs.Points.{IsPlaced, pixel_count};
 ghost use Rattle.qws_base.specs.Windows.{layout_of};
@@ -10,7 +10,6 @@ ghost use Rattle.qws_base.specs.Shown.{IsShape, shown_picture};
 use crate::{paints, shows, steps};
 use qws_base::{
     Cursor, Depth, Ink, OutOfMemory, PaintReply, Picture, Rgb, Size, WindowView, Words, after_at,
-    narrow,
 };
 use std::alloc::Global;
 use std::marker::Model;
@@ -45,7 +44,7 @@ impl Canvas {
         ensures { let setting = setting_of size depth backdrop in
             IfOk result (λ canvas. canvas ≡ record { setting = setting; scene = opening_scene setting }) }
     {
-        let backdrop = backdrop_at(depth, backdrop);
+        let backdrop = depth.scene(backdrop);
         let pixels = (size.w() * size.h()) as usize;
         Ok(Canvas {
             size,
@@ -62,7 +61,29 @@ impl Canvas {
         self.size
     }
 
-    /// The scene colour of a pixel; pixels are numbered by rows.
+    /// The depth of the screen.
+    pub fn depth(&self) -> Depth
+        ensures { result ≡ self.now.setting.depth }
+    {
+        self.depth
+    }
+
+    /// The scene colours of all pixels, by rows from the top left.
+    pub fn pixels(&self) -> &[Rgb]
+        ensures value { result.now ≡ self.now.scene }
+        ensures len { length self.now.scene ≡ pixel_count self.now.setting.size }
+    {
+        &self.cells
+    }
+
+    /// Whether the canvas has a pixel of that number; pixels are numbered by rows from the top left.
+    pub fn has(&self, p: u32) -> bool
+        ensures { IsTrue result ↔ (p < pixel_count self.now.setting.size) }
+    {
+        p < self.size.w() * self.size.h()
+    }
+
+    /// The scene colour of a pixel that the canvas has.
     pub fn pixel(&self, p: u32) -> Rgb
         requires { p < pixel_count self.now.setting.size }
         ensures value { result ≡ slice_index self.now.scene p }
@@ -116,7 +137,7 @@ impl Canvas {
         )
     }
 
-    /// A pixel takes an ink, and no other pixel changes. It takes no memory.
+    /// A pixel that the canvas has takes an ink, and no other pixel changes. It takes no memory.
     pub fn lay(&mut self, p: u32, ink: Ink)
         requires { p < pixel_count self.old.setting.size }
         ensures { let old = slice_index self.old.scene p in
@@ -133,17 +154,5 @@ impl Canvas {
     {
         let shown = shows::show(alloc, self.size, self.depth, &self.cells, cursor)?;
         Ok(Words::of(shown))
-    }
-}
-
-// A colour as a scene of the depth holds it.
-fn backdrop_at(depth: Depth, backdrop: Rgb) -> Rgb
-    ensures value { result ≡ scene_colour depth backdrop }
-    ensures range { IsSceneColour depth result }
-{
-    let _range = backdrop.value();
-    match depth {
-        Depth::Full => backdrop,
-        Depth::Narrow => narrow(backdrop),
     }
 }

@@ -8,4 +8,4 @@ mod shows;
 mod steps;
 
 pub use canvas::Canvas;
-pub use owners::owner_of;
+pub use owners::{are_placed, owner_of};

@@ -1,5 +1,5 @@
 //! Which window a point belongs to, and where windows are.
-ghost use Rattle.std.specs.Prelude.{◌≡◌, ◌+ℤ◌, ◌<◌, ◌≤◌, ◌*◌, All, IfSome};
+ghost use Rattle.std.specs.Prelude.{◌≡◌, ◌+ℤ◌, ◌<◌, ◌≤◌, ◌*◌, ◌↔◌, IsTrue, All, IfSome};
 ghost use Rattle.qws_base.specs.Points.{spans, holds, shifted, point_of, pixel_at, pixel_count, IsOnLargest, IsPlaced};
 ghost use Rattle.std.specs.List.{find};
 ghost use Rattle.std.specs.Option.{option_map};
@@ -46,6 +46,13 @@ pub fn has_own(windows: &[WindowView], client: u32, slot: u32) -> bool
     ensures { result ≡ is_own windows.now client slot }
 {
     windows.iter().any(|w| w.slot == slot && w.owner == client)
+}
+
+/// Whether each window's origin is in -4,096 to 4,095, as `apply_step` and `apply_paint` of a canvas ask.
+pub fn are_placed(windows: &[WindowView]) -> bool
+    ensures { IsTrue result ↔ All (λ w. IsPlaced w.origin) windows.now }
+{
+    windows.iter().all(|w| w.origin.is_placed())
 }
 
 // The origin of the first window with a slot.
