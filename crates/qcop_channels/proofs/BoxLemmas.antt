@@ -1,126 +1,240 @@
--- A change of one mailbox, and a message for each of some mailboxes.
-use Rattle.std.proofs.Common.{◌≡◌, ◌≢◌, ℕ, ◌+◌, ◌<◌, ◌≤◌, ◌++◌, [], ◌∷◌, List, Bool, true, false, map, length, get_or, set, take, Option, Some, None, IfNone, if◌then◌else◌, refl, sym, ap, ◌∙◌, arith}
-use Rattle.std.specs.List.{range_with_len}
-use Rattle.std.specs.Option.{option_to_list}
-use Rattle.std.specs.Vec.{with_items}
-use Rattle.std.proofs.lemmas.Grind.{common_steps}
-use Rattle.std.specs.declared.vec.Vec.{Vec}
-use Rattle.std.specs.declared.collections.VecDeque.{VecDeque}
-use Rattle.std.specs.VecDeque.{deque_len, deque_capacity}
-use Rattle.std.proofs.lemmas.List.{take_more, map-set, get_or-map, append-nil, map-append, length-map, length-set, get_or-set_same, get_or-set_other}
-use borrow.Author.Count.{below_more}
-use Rattle.std.proofs.Math.Seq.{map-set_same}
-use Rattle.std.proofs.lemmas.List.FromFn.{fill_by_all, map-range_with_len_more, get_or-map-range_with_len, length-map-range_with_len}
+-- A mailbox keeps its count and its room; a message to some clients goes to each of them.
+use Rattle.std.proofs.Common.{◌≡◌, ◌≢◌, ℕ, zero, suc, ◌+◌, ◌-◌, ◌<◌, ◌≤◌, ◌++◌, [], ◌∷◌, List, Bool, true, false, not, cond, ◌||◌, ◌==◌, nat_le, filter, take, replicate, length, get_or, set, Option, Some, None, if◌then◌else◌, refl, sym, ap, subst, ◌∙◌, arith}
+use Rattle.std.specs.List.{list_any}
+use Rattle.std.proofs.lemmas.Bool.{false≢true}
+use Rattle.std.proofs.lemmas.Bool.Decides.{nat_tests}
+use Rattle.std.proofs.lemmas.List.{length-append, length-set, get_or-set_same, get_or-set_other, get_or-replicate, take-replicate, take_more}
+use Rattle.std.proofs.lemmas.List.FromFn.{fill_by_all, get_or-map-range_with_len, length-map-range_with_len}
 use Rattle.qws_base.specs.declared.replies.Event.{Event}
-use Rattle.qws_base.specs.Mail.{mailbox_of, is_among, delivered}
-use Rattle.qcop_channels.specs.Views.{boxes_of, copy_for, with_copies, HaveRoom, HaveRoomFor}
+use Rattle.qws_base.specs.declared.replies.Event.TheVariants.{Message, RegionModified}
+use Rattle.qws_base.specs.Mail.{is_message, is_region_of, message_count, mailbox_of, first_full, is_among, delivered}
+use Rattle.qcop_channels.specs.Views.{AreDistinctBelow, told_slots, IsMailbox}
+use Rattle.qcop_channels.proofs.DistinctLemmas.{is_among-append, AreDistinctBelow-push, AreDistinctBelow-filter, length-AreDistinctBelow, below_at, not_before}
 
--- the mailbox of a client, as its events
-pub mailbox_of-boxes_of : {Y : Type 0} (boxes : List (VecDeque Event Y)) (client : ℕ) (d : VecDeque Event Y) → client < length boxes → mailbox_of (boxes_of boxes) client ≡ (get_or boxes client d).items
-mailbox_of-boxes_of boxes client d h = get_or-map (λ q. q.items) boxes client d [] h
+-- ---- the events of a mailbox
 
--- one mailbox is replaced
-pub boxes_of-set : {Y : Type 0} (boxes : List (VecDeque Event Y)) (client : ℕ) (q : VecDeque Event Y) → boxes_of (set boxes client q) ≡ set (boxes_of boxes) client q.items
-boxes_of-set boxes client q = map-set (λ q. q.items) boxes client q
+-- each event is a message or tells of a slot
+pub length-parts : (box : List Event) → length box ≡ message_count box + length (told_slots box)
+length-parts [] = refl
+length-parts (Message c f m p ∷ box) = omega (arith, length-parts box)
+length-parts (RegionModified slot ∷ box) = omega (arith, length-parts box)
 
--- one mailbox is changed
-pub boxes_of-changed : {Y : Type 0} (boxes : List (VecDeque Event Y)) (client : ℕ) (d q : VecDeque Event Y) (change : List Event → List Event) → client < length boxes → q.items ≡ change (get_or boxes client d).items
-    → boxes_of (set boxes client q) ≡ set (boxes_of boxes) client (change (mailbox_of (boxes_of boxes) client))
-boxes_of-changed boxes client d q change within now =
-    boxes_of-set boxes client q ∙ ap (set (boxes_of boxes) client) (now ∙ ap change (sym (mailbox_of-boxes_of boxes client d within)))
+-- a mailbox has at most 32 events that aren't messages
+pub length-IsMailbox : (box : List Event) (messages room : ℕ) → IsMailbox box messages room → length box ≤ message_count box + 32
+length-IsMailbox box messages room h = omega (arith, length-parts box, length-AreDistinctBelow 32 (told_slots box) h.slots)
 
-pub length-boxes_of : {Y : Type 0} (boxes : List (VecDeque Event Y)) → length (boxes_of boxes) ≡ length boxes
-length-boxes_of boxes = length-map boxes (λ q. q.items)
+message_count-put : (box : List Event) (message : Event) → is_message message ≡ true → message_count (box ++ message ∷ []) ≡ message_count box + 1
+message_count-put [] (Message c f m p) h = refl
+message_count-put [] (RegionModified slot) h = absurd (false≢true h)
+message_count-put (Message c f m p ∷ box) message h = omega (arith, message_count-put box message h)
+message_count-put (RegionModified slot ∷ box) message h = message_count-put box message h
 
--- one more mailbox
-pub boxes_of-push : {Y : Type 0} (boxes : List (VecDeque Event Y)) (q : VecDeque Event Y) → boxes_of (boxes ++ q ∷ []) ≡ boxes_of boxes ++ q.items ∷ []
-boxes_of-push boxes q = map-append (λ q. q.items) boxes (q ∷ [])
+told_slots-put : (box : List Event) (message : Event) → is_message message ≡ true → told_slots (box ++ message ∷ []) ≡ told_slots box
+told_slots-put [] (Message c f m p) h = refl
+told_slots-put [] (RegionModified slot) h = absurd (false≢true h)
+told_slots-put (Message c f m p ∷ box) message h = told_slots-put box message h
+told_slots-put (RegionModified slot ∷ box) message h = ap (λ (slots : List ℕ). slot ∷ slots) (told_slots-put box message h)
 
--- one more empty mailbox
-pub boxes_of-push_empty : {Y : Type 0} (boxes : List (VecDeque Event Y)) (q : VecDeque Event Y) (n : ℕ) → boxes_of boxes ≡ map (λ client. []) (range_with_len 0 n) → q.items ≡ []
-    → boxes_of (boxes ++ q ∷ []) ≡ map (λ client. []) (range_with_len 0 (n + 1))
-boxes_of-push_empty boxes q n before empty =
-    boxes_of-push boxes q ∙ ap (λ (all : List (List Event)). all ++ q.items ∷ []) before
-    ∙ ap (λ (box : List Event). map (λ client. []) (range_with_len 0 n) ++ box ∷ []) empty
-    ∙ sym (map-range_with_len_more (λ client. []) 0 n n (omega arith))
+-- one more message
+pub IsMailbox-put : (box : List Event) (messages room : ℕ) (message : Event) → IsMailbox box messages room → is_message message ≡ true → message_count box < 256 → IsMailbox (box ++ message ∷ []) (messages + 1) room
+IsMailbox-put box messages room message h is few =
+    let counted = h.counted in
+    let more = message_count-put box message is in
+    record { counted = omega arith; few = omega arith; slots = subst (AreDistinctBelow 32) (sym (told_slots-put box message is)) h.slots; wide = h.wide }
 
--- by one with the same events
-pub boxes_of-set_same : {Y : Type 0} (boxes : List (VecDeque Event Y)) (client : ℕ) (q d : VecDeque Event Y) → q.items ≡ (get_or boxes client d).items → boxes_of (set boxes client q) ≡ boxes_of boxes
-boxes_of-set_same boxes client q d h = map-set_same (λ q. q.items) boxes client q d h
+message_count-tell : (box : List Event) (slot : ℕ) → message_count (box ++ RegionModified slot ∷ []) ≡ message_count box
+message_count-tell [] slot = refl
+message_count-tell (Message c f m p ∷ box) slot = omega (arith, message_count-tell box slot)
+message_count-tell (RegionModified other ∷ box) slot = message_count-tell box slot
 
--- where nothing was first, nothing has changed
-pub kept_without : {P : Type 0} (r : Option Event) (old new : List Event) → old ≡ option_to_list r ++ new → (new ≡ old → P) → IfNone r P
-kept_without None old new h p = p (sym h)
-kept_without (Some event) old new h p = tt
+told_slots-tell : (box : List Event) (slot : ℕ) → told_slots (box ++ RegionModified slot ∷ []) ≡ told_slots box ++ slot ∷ []
+told_slots-tell [] slot = refl
+told_slots-tell (Message c f m p ∷ box) slot = told_slots-tell box slot
+told_slots-tell (RegionModified other ∷ box) slot = ap (λ (slots : List ℕ). other ∷ slots) (told_slots-tell box slot)
 
-added : (b : Bool) (event : Event) (box : List Event) → box ++ option_to_list (if b then Some event else None) ≡ (if b then box ++ event ∷ [] else box)
-added true event box = refl
-added false event box = append-nil box
+is_among-told_slots : (box : List Event) (slot : ℕ) → is_among slot (told_slots box) ≡ list_any (is_region_of slot) box
+is_among-told_slots [] slot = refl
+is_among-told_slots (Message c f m p ∷ box) slot = is_among-told_slots box slot
+is_among-told_slots (RegionModified other ∷ box) slot = ap (λ (b : Bool). (other == slot) || b) (is_among-told_slots box slot)
 
--- a copy of the event to each client that gets one is the delivery
-pub with_copies-copy_for : (event : Event) (clients : List ℕ) (boxes : List (List Event)) → with_copies (map (copy_for event clients) (range_with_len 0 (length boxes))) boxes ≡ delivered event clients boxes
-with_copies-copy_for event clients boxes =
-    let copies = map (copy_for event clients) (range_with_len 0 (length boxes)) in
-    let each : ℕ → List Event = λ c. mailbox_of boxes c ++ option_to_list (get_or copies c None) in
-    let wanted : ℕ → List Event = λ c. if is_among c clients then mailbox_of boxes c ++ event ∷ [] else mailbox_of boxes c in
-    fill_by_all wanted (map each (range_with_len 0 (length boxes))) (length boxes) [] (length-map-range_with_len each 0 (length boxes))
-    (λ k below.
-    get_or-map-range_with_len each 0 (length boxes) k k [] below (omega arith)
-    ∙ ap (λ (copy : Option Event). mailbox_of boxes k ++ option_to_list copy) (get_or-map-range_with_len (copy_for event clients) 0 (length boxes) k k None below (omega arith))
-    ∙ added (is_among k clients) event (mailbox_of boxes k))
-
-pub delivered-with_copies : (event : Event) (clients : List ℕ) (boxes : List (List Event)) (copies : List (Option Event)) (n : ℕ) → length boxes ≡ n → copies ≡ map (copy_for event clients) (range_with_len 0 n) → with_copies copies boxes ≡ delivered event clients boxes
-delivered-with_copies event clients boxes copies n whole all =
-    ap (λ (c : List (Option Event)). with_copies c boxes) (all ∙ ap (λ (k : ℕ). map (copy_for event clients) (range_with_len 0 k)) (sym whole))
-    ∙ with_copies-copy_for event clients boxes
-
--- one more mailbox is copied
-pub boxes_of-push_copy : {Y : Type 0} (boxes all : List (VecDeque Event Y)) (at : ℕ) (copy d : VecDeque Event Y) → at < length boxes → boxes_of all ≡ take at (boxes_of boxes) → copy.items ≡ (get_or boxes at d).items
-    → boxes_of (all ++ copy ∷ []) ≡ take (at + 1) (boxes_of boxes)
-boxes_of-push_copy boxes all at copy d within before same =
-    let whole = length-boxes_of boxes in
-    boxes_of-push all copy ∙ ap (λ (front : List (List Event)). front ++ copy.items ∷ []) before
-    ∙ ap (λ (box : List Event). take at (boxes_of boxes) ++ box ∷ []) (same ∙ sym (mailbox_of-boxes_of boxes at d within))
-    ∙ sym (take_more (boxes_of boxes) at [] (omega arith))
-
--- what the loop that delivers keeps, before the mailbox at a place
-pub record IsDelivered (before now : List (List Event)) (copies : List (Option Event)) (at : ℕ) : Type 0 where
-  pub same : length now ≡ length before
-  pub done : (k : ℕ) → k < at → mailbox_of now k ≡ mailbox_of before k ++ option_to_list (get_or copies k None)
-  pub untouched : (k : ℕ) → at ≤ k → mailbox_of now k ≡ mailbox_of before k
-
-pub IsDelivered-more : (before now : List (List Event)) (copies : List (Option Event)) (at : ℕ) → at < length now → IsDelivered before now copies at
-    → IsDelivered before (set now at (mailbox_of now at ++ option_to_list (get_or copies at None))) copies (at + 1)
-IsDelivered-more before now copies at within h = record {
-  same = length-set now at _ ∙ h.same;
-  done = below_more _ at
-      (λ k below. let apart : k ≢ at = omega arith in get_or-set_other now at k _ [] apart ∙ h.done k below)
-      (get_or-set_same now at _ [] within ∙ ap (λ (box : List Event). box ++ option_to_list (get_or copies at None)) (h.untouched at (omega arith)));
-  untouched = λ k above. let apart : k ≢ at = omega arith in get_or-set_other now at k _ [] apart ∙ h.untouched k (omega arith);
+-- one more slot
+pub IsMailbox-tell : (box : List Event) (messages room slot : ℕ) → IsMailbox box messages room → slot < 32 → list_any (is_region_of slot) box ≡ false → IsMailbox (box ++ RegionModified slot ∷ []) messages room
+IsMailbox-tell box messages room slot h low new = record {
+  counted = h.counted ∙ sym (message_count-tell box slot);
+  few = h.few;
+  slots = subst (AreDistinctBelow 32) (sym (told_slots-tell box slot)) (AreDistinctBelow-push 32 (told_slots box) slot h.slots low (is_among-told_slots box slot ∙ new));
+  wide = h.wide;
 }
 
-pub IsDelivered-all : (before now : List (List Event)) (copies : List (Option Event)) (at : ℕ) → at ≡ length now → IsDelivered before now copies at → now ≡ with_copies copies before
-IsDelivered-all before now copies at whole h =
-    let same = h.same in
-    fill_by_all (λ c. mailbox_of before c ++ option_to_list (get_or copies c None)) now (length before) [] same (λ k below. h.done k (omega arith))
+-- room for one more slot
+pub room_to_tell : (box : List Event) (messages room slot : ℕ) → IsMailbox box messages room → slot < 32 → list_any (is_region_of slot) box ≡ false → length box < room
+room_to_tell box messages room slot h low new =
+    let more = IsMailbox-tell box messages room slot h low new in
+    let counted = h.counted in
+    let few = h.few in
+    let wide = h.wide in
+    omega (arith, length-IsMailbox (box ++ RegionModified slot ∷ []) messages room more, message_count-tell box slot, length-append box (RegionModified slot ∷ []))
 
--- one more mailbox has room
-pub HaveRoom-more : {Y : Type 0} (boxes : List (VecDeque Event Y)) (clients : List ℕ) (at : ℕ) (q : VecDeque Event Y) → at < length boxes → HaveRoom boxes clients at → (is_among at clients ≡ true → deque_len q < deque_capacity q)
-    → HaveRoom (set boxes at q) clients (at + 1)
-HaveRoom-more {Y} boxes clients at q within room new c d below among =
-    let P : ℕ → Type 0 = λ k. is_among k clients ≡ true → deque_len (get_or (set boxes at q) k d) < deque_capacity (get_or (set boxes at q) k d) in
-    below_more P at
-    (λ k low. let apart : k ≢ at = omega arith in rw (get_or-set_other boxes at k q d apart) (room k d low))
-    (rw (get_or-set_same boxes at q d within) new)
-    c below among
+-- room for one more message
+pub room_to_put : (box : List Event) (messages room : ℕ) → IsMailbox box messages room → message_count box < 256 → length box < room
+room_to_put box messages room h few = let wide = h.wide in omega (arith, length-IsMailbox box messages room h)
 
--- a mailbox without a copy needs no room
-pub HaveRoomFor-more : {Y : Type 0} (boxes : List (VecDeque Event Y)) (copies : List (Option Event)) (at : ℕ) (q : VecDeque Event Y) (copy : Option Event) → HaveRoomFor boxes copies at → HaveRoomFor (set boxes at q) (set copies at copy) (at + 1)
-HaveRoomFor-more boxes copies at q copy room c d above within there =
-    let apart : c ≢ at = omega arith in
-    rw (get_or-set_other boxes at c q d apart)
-    (room c d (omega arith) (rw (length-set boxes at q) at within) (rw (get_or-set_other copies at c copy None apart) at there))
+-- all events have room
+pub room_of_all : (box : List Event) (messages room : ℕ) → IsMailbox box messages room → length box ≤ 288
+room_of_all box messages room h = let counted = h.counted in let few = h.few in omega (arith, length-IsMailbox box messages room h)
 
--- a vector after its elements were written
-pub items-with_items : {X Y : Type 0} (v : Vec X Y) (items : List X) → length items ≡ length v.items → (with_items v items).items ≡ items
-items-with_items v items same = let whole = v.ok.0 in grind (arith, common_steps)
+-- without its oldest event, which is a message
+pub IsMailbox-take_message : (event : Event) (box : List Event) (messages room : ℕ) → IsMailbox (event ∷ box) messages room → is_message event ≡ true → (0 < messages) × IsMailbox box (messages - 1) room
+IsMailbox-take_message (Message c f m p) box messages room h is =
+    let counted = h.counted in
+    let few = h.few in
+    (omega arith, record { counted = omega arith; few = omega arith; slots = h.slots; wide = h.wide })
+IsMailbox-take_message (RegionModified slot) box messages room h is = absurd (false≢true is)
+
+-- or tells of a slot
+pub IsMailbox-take_slot : (event : Event) (box : List Event) (messages room : ℕ) → IsMailbox (event ∷ box) messages room → is_message event ≡ false → IsMailbox box messages room
+IsMailbox-take_slot (Message c f m p) box messages room h is = absurd (false≢true (sym is))
+IsMailbox-take_slot (RegionModified slot) box messages room h is = record { counted = h.counted; few = h.few; slots = h.slots.2; wide = h.wide }
+
+message_count-forget : (slot : ℕ) (box : List Event) → message_count (filter (λ e. not (is_region_of slot e)) box) ≡ message_count box
+message_count-forget slot [] = refl
+message_count-forget slot (Message c f m p ∷ box) = omega (arith, message_count-forget slot box)
+message_count-forget slot (RegionModified other ∷ box) = dropped (not (other == slot)) ∙ message_count-forget slot box
+  where
+    dropped : (b : Bool) → message_count (cond b (RegionModified other ∷ filter (λ e. not (is_region_of slot e)) box) (filter (λ e. not (is_region_of slot e)) box)) ≡ message_count (filter (λ e. not (is_region_of slot e)) box)
+    dropped true = refl
+    dropped false = refl
+
+told_slots-forget : (slot : ℕ) (box : List Event) → told_slots (filter (λ e. not (is_region_of slot e)) box) ≡ filter (λ s. not (s == slot)) (told_slots box)
+told_slots-forget slot [] = refl
+told_slots-forget slot (Message c f m p ∷ box) = told_slots-forget slot box
+told_slots-forget slot (RegionModified other ∷ box) = kept _ _ (not (other == slot)) (told_slots-forget slot box)
+  where
+    kept : (rest : List Event) (slots : List ℕ) (b : Bool) → told_slots rest ≡ slots → told_slots (cond b (RegionModified other ∷ rest) rest) ≡ cond b (other ∷ slots) slots
+    kept rest slots true h = ap (λ (s : List ℕ). other ∷ s) h
+    kept rest slots false h = h
+
+-- without a slot
+pub IsMailbox-forget : (slot : ℕ) (box : List Event) (messages room : ℕ) → IsMailbox box messages room → IsMailbox (filter (λ e. not (is_region_of slot e)) box) messages room
+IsMailbox-forget slot box messages room h = record {
+  counted = h.counted ∙ sym (message_count-forget slot box);
+  few = h.few;
+  slots = subst (AreDistinctBelow 32) (sym (told_slots-forget slot box)) (AreDistinctBelow-filter 32 (λ s. not (s == slot)) (told_slots box) h.slots);
+  wide = h.wide;
+}
+
+-- ---- a message to some clients
+
+-- the mailbox of a client after a delivery
+pub mailbox_of-delivered : (event : Event) (clients : List ℕ) (boxes : List (List Event)) (client : ℕ) → client < length boxes
+    → mailbox_of (delivered event clients boxes) client ≡ (if is_among client clients then mailbox_of boxes client ++ event ∷ [] else mailbox_of boxes client)
+mailbox_of-delivered event clients boxes client low =
+    get_or-map-range_with_len (λ c. if is_among c clients then mailbox_of boxes c ++ event ∷ [] else mailbox_of boxes c) 0 (length boxes) client client [] low (omega arith)
+
+pub length-delivered : (event : Event) (clients : List ℕ) (boxes : List (List Event)) → length (delivered event clients boxes) ≡ length boxes
+length-delivered event clients boxes = length-map-range_with_len (λ c. if is_among c clients then mailbox_of boxes c ++ event ∷ [] else mailbox_of boxes c) 0 (length boxes)
+
+-- the mailbox of a client that isn't among them stays
+pub not_delivered : (event : Event) (clients : List ℕ) (boxes : List (List Event)) (client : ℕ) → client < length boxes → is_among client clients ≡ false
+    → mailbox_of (delivered event clients boxes) client ≡ mailbox_of boxes client
+not_delivered event clients boxes client low apart =
+    mailbox_of-delivered event clients boxes client low ∙ ap (λ (b : Bool). if b then mailbox_of boxes client ++ event ∷ [] else mailbox_of boxes client) apart
+
+-- a delivery to nobody
+pub delivered-none : (event : Event) (boxes : List (List Event)) → boxes ≡ delivered event [] boxes
+delivered-none event boxes = fill_by_all (mailbox_of boxes) boxes (length boxes) [] refl (λ k below. refl)
+
+-- a delivery to one client more
+pub delivered-more : (event : Event) (clients more : List ℕ) (boxes : List (List Event)) (client : ℕ) → client < length boxes → is_among client clients ≡ false
+    → ((c : ℕ) → is_among c more ≡ (is_among c clients || (client == c)))
+    → set (delivered event clients boxes) client (mailbox_of (delivered event clients boxes) client ++ event ∷ []) ≡ delivered event more boxes
+delivered-more event clients more boxes client low apart among =
+    let now = delivered event clients boxes in
+    let whole = length-delivered event clients boxes in
+    fill_by_all wanted changed (length boxes) [] (length-set now client _ ∙ whole) (λ k below. place k below (client == k) refl)
+  where
+    wanted : ℕ → List Event
+    wanted c = if is_among c more then mailbox_of boxes c ++ event ∷ [] else mailbox_of boxes c
+
+    changed : List (List Event)
+    changed = set (delivered event clients boxes) client (mailbox_of (delivered event clients boxes) client ++ event ∷ [])
+
+    or_false : (b : Bool) → (b || false) ≡ b
+    or_false true = refl
+    or_false false = refl
+
+    place : (k : ℕ) → k < length boxes → (same : Bool) → (client == k) ≡ same → get_or changed k [] ≡ wanted k
+    place k below true same =
+        let equal : client ≡ k = grind (arith, nat_tests) in
+        let now = delivered event clients boxes in
+        let itself : (client == client) ≡ true = grind (arith, nat_tests) in
+        let there : is_among client more ≡ true = among client ∙ ap (λ (b : Bool). b || (client == client)) apart ∙ itself in
+        let P : ℕ → Type 0 = λ k. get_or changed k [] ≡ wanted k in
+        subst P equal
+        (get_or-set_same now client _ [] (omega (arith, length-delivered event clients boxes))
+        ∙ ap (λ (box : List Event). box ++ event ∷ []) (not_delivered event clients boxes client low apart)
+        ∙ sym (ap (λ (b : Bool). if b then mailbox_of boxes client ++ event ∷ [] else mailbox_of boxes client) there))
+    place k below false same =
+        let apart_k : k ≢ client = grind (arith, nat_tests) in
+        let there : is_among k more ≡ is_among k clients = among k ∙ ap (λ (b : Bool). is_among k clients || b) same ∙ or_false (is_among k clients) in
+        get_or-set_other (delivered event clients boxes) client k _ [] apart_k
+        ∙ mailbox_of-delivered event clients boxes k below
+        ∙ sym (ap (λ (b : Bool). if b then mailbox_of boxes k ++ event ∷ [] else mailbox_of boxes k) there)
+
+not_first : (full : Bool) (c : ℕ) (rest : Option ℕ) → cond full (Some c) rest ≡ None → (full ≡ false) × (rest ≡ None)
+not_first true c rest h = cc
+not_first false c rest h = (refl, h)
+
+-- each of these clients has room for a message more
+pub room_at : (boxes : List (List Event)) (clients : List ℕ) (i : ℕ) → first_full boxes clients ≡ None → i < length clients → message_count (mailbox_of boxes (get_or clients i 0)) < 256
+room_at boxes [] i none within = absurd (omega arith)
+room_at boxes (c ∷ clients) zero none within =
+    let few = (not_first (nat_le 256 (message_count (mailbox_of boxes c))) c (first_full boxes clients) none).0 in
+    grind (arith, nat_tests)
+room_at boxes (c ∷ clients) (suc i) none within =
+    room_at boxes clients i (not_first (nat_le 256 (message_count (mailbox_of boxes c))) c (first_full boxes clients) none).1 (omega arith)
+
+-- the message goes to all clients but the first, and then to the first
+module _ (message : Event) (first : ℕ) (others : List ℕ) (boxes : List (List Event)) (all : AreDistinctBelow 16 (first ∷ others)) (whole : length boxes ≡ 16) (room : first_full boxes (first ∷ others) ≡ None) where
+  -- the next client has a mailbox
+  pub next_low : (i : ℕ) → i < length others → get_or others i 0 < length boxes
+  next_low i within = omega (arith, below_at 16 others i all.2 within)
+
+  -- with room, after those before it
+  pub next_room : (i : ℕ) → i < length others → message_count (mailbox_of (delivered message (take i others) boxes) (get_or others i 0)) < 256
+  next_room i within =
+      rw (not_delivered message (take i others) boxes (get_or others i 0) (next_low i within) (not_before 16 others i all.2 within))
+      (room_at boxes (first ∷ others) (suc i) room (omega arith))
+
+  -- and gets the message
+  pub next_delivered : (i : ℕ) → i < length others
+      → set (delivered message (take i others) boxes) (get_or others i 0) (mailbox_of (delivered message (take i others) boxes) (get_or others i 0) ++ message ∷ []) ≡ delivered message (take (i + 1) others) boxes
+  next_delivered i within =
+      delivered-more message (take i others) (take (i + 1) others) boxes (get_or others i 0) (next_low i within) (not_before 16 others i all.2 within)
+      (λ c. ap (is_among c) (take_more others i 0 within) ∙ is_among-append c (take i others) (get_or others i 0))
+
+  -- the first client has room, after the others
+  pub first_room : message_count (mailbox_of (delivered message others boxes) first) < 256
+  first_room =
+      rw (not_delivered message others boxes first (let low = all.0 in omega arith) all.1)
+      (room_at boxes (first ∷ others) 0 room (omega arith))
+
+  -- and gets the message
+  pub first_delivered : set (delivered message others boxes) first (mailbox_of (delivered message others boxes) first ++ message ∷ []) ≡ delivered message (first ∷ others) boxes
+  first_delivered =
+      delivered-more message others (first ∷ others) boxes first (let low = all.0 in omega arith) all.1 (λ c. or_flip (first == c) (is_among c others))
+    where
+      or_flip : (a b : Bool) → (a || b) ≡ (b || a)
+      or_flip true true = refl
+      or_flip true false = refl
+      or_flip false true = refl
+      or_flip false false = refl
+
+-- ---- copies of a message
+
+-- the last of some copies is the message, and one fewer are left
+pub copy_is : (copies : List Event) (n : ℕ) (message d : Event) → copies ≡ replicate n message → 0 < n → get_or copies (n - 1) d ≡ message
+copy_is copies n message d all some = rw all (get_or-replicate n (n - 1) message d (omega arith))
+
+pub copies_left : (copies : List Event) (n m : ℕ) (message : Event) → copies ≡ replicate n message → m + 1 ≡ n → take m copies ≡ replicate m message
+copies_left copies n m message all fewer = rw all (take-replicate m n message (omega arith))

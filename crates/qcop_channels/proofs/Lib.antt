@@ -1,3 +1,3 @@
-pub mod BoxLemmas
 pub mod ChannelLemmas
-pub mod ClientLemmas
+pub mod DistinctLemmas
+pub mod BoxLemmas

@@ -6,7 +6,10 @@ mod mailboxes;
 mod names;
 mod sending;
 mod stops;
+mod subscribers;
 mod subscriptions;
 
 pub use channels::Channels;
+pub use sending::PreparedSend;
 pub use stops::QcopStop;
+pub use subscriptions::PreparedJoin;

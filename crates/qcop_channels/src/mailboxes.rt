@@ -1,22 +1,21 @@
-//! The mailboxes of the clients, each a queue of events.
-ghost use Rattle.std.specs.Prelude.{nat_le, IsSome, ◌≡◌, ◌<◌, ◌≤◌, ◌^◌, ◌++◌, [], ◌∷◌, ℕ, drop, length, map, filter, not, slice_set, slice_get, slice_index_or, Option, Some, None, IfNone, IfOk, OnOk, OnErr, true, if◌then◌else◌};
+//! The mailbox of a client: a queue of events with a count of its messages.
+ghost use Rattle.std.specs.Prelude.{nat_le, ◌≡◌, ◌<◌, ◌≤◌, ◌++◌, [], ◌∷◌, drop, map, filter, not, true, slice_get, IfOk};
 ghost use Rattle.std.specs.List.{list_any, range_with_len};
 ghost use Rattle.std.specs.VecDeque.{deque_len, deque_capacity};
-ghost use Rattle.std.specs.Option.{option_to_list};
-ghost use Rattle.qws_base.specs.Mail.{is_message, is_region_of, message_count, mailbox_of, first_full, is_among, delivered};
-ghost use Rattle.qws_base.specs.declared.replies.Event.{Event};
-ghost use Rattle.qws_base.specs.declared.replies.Event.TheVariants.{Message, RegionModified};
-ghost use Rattle.qcop_channels.specs.Views.{boxes_of, with_region, copy_for, HaveRoom, HaveRoomFor, with_copies};
+ghost use Rattle.std.specs.Option.{option_copied};
+ghost use Rattle.qws_base.specs.Mail.{is_message, is_region_of, message_count, mailbox_of, first_full};
+ghost use Rattle.qcop_channels.specs.Views.{box_noted};
 
 use qws_base::{Event, OutOfMemory};
 use std::alloc::Global;
 use std::collections::VecDeque;
-
-/// The events of a client, oldest first.
-pub type Mailbox = VecDeque<Event>;
+use std::marker::Model;
 
 /// The most messages that a mailbox holds.
 const MOST_MESSAGES: usize = 256;
+
+/// The most events that a mailbox holds: its messages, and one for each of 32 slots.
+const MOST_EVENTS: usize = 288;
 
 fn is_message(event: &Event) -> bool
     ensures { result ≡ is_message event.now }
@@ -36,194 +35,159 @@ fn is_region_of(slot: u32, event: &Event) -> bool
     }
 }
 
-fn message_count(mailbox: &Mailbox) -> usize
-    ensures { result ≡ message_count mailbox.now.items }
+/// The events of a client, oldest first: at most 256 messages, and at most one `RegionModified` for each of 32 slots. There
+/// is room for all of these from the start.
+#[derive(Drop)]
+pub struct Mailbox {
+    events: VecDeque<Event>,
+    messages: usize,
+}
+
+impl Model for Mailbox {
+    ghost use Rattle.std.specs.Prelude.{List};
+    ghost use Rattle.std.specs.VecDeque.{deque_capacity};
+    ghost use Rattle.qws_base.specs.declared.replies.Event.{Event};
+    ghost use Rattle.qcop_channels.specs.Views.{IsMailbox};
+
+    ghost Value = { List Event };
+
+    ghost view = { λ b. b.events.items };
+
+    ghost invariant = { λ b. IsMailbox b.events.items b.messages (deque_capacity b.events) };
+}
+
+impl Mailbox {
+    /// An empty mailbox.
+    pub fn new(alloc: Global) -> Result<Mailbox, OutOfMemory>
+        ensures { IfOk result (λ mailbox. mailbox ≡ []) }
+    {
+        Ok(Mailbox {
+            events: VecDeque::with_capacity(alloc, MOST_EVENTS)?,
+            messages: 0,
+        })
+    }
+
+    /// Whether it holds 256 messages.
+    pub fn is_full(&self) -> bool
+        ensures { result ≡ nat_le 256 (message_count self.now) }
+    {
+        self.messages >= MOST_MESSAGES
+    }
+
+    /// The oldest event.
+    pub fn oldest(&self) -> Option<&Event>
+        ensures { option_copied result ≡ slice_get self.now 0 }
+    {
+        self.events.front()
+    }
+
+    /// The message is the newest event.
+    pub fn put(&mut self, message: Event)
+        requires message { is_message message ≡ true }
+        requires room { message_count self.old < 256 }
+        ensures { self.new ≡ self.old ++ message ∷ [] }
+    {
+        self.events.push_back_reserved(message);
+        self.messages += 1;
+    }
+
+    /// The oldest event leaves.
+    pub fn take(&mut self) -> Option<Event>
+        ensures oldest { result ≡ slice_get self.old 0 }
+        ensures rest { self.new ≡ drop 1 self.old }
+    {
+        let event = self.events.pop_front();
+        if event.as_ref().is_some_and(is_message) {
+            self.messages -= 1;
+        }
+        event
+    }
+
+    /// Whether it holds the event of the slot.
+    fn tells(&self, slot: u32) -> bool
+        ensures { result ≡ list_any (is_region_of slot) self.now }
+    {
+        self.events.iter().any(|event| is_region_of(slot, event))
+    }
+
+    /// The event of the slot stands in it, as the newest where it had none.
+    pub fn tell(&mut self, slot: u32)
+        requires { slot < 32 }
+        ensures { self.new ≡ box_noted slot self.old }
+    {
+        if !self.tells(slot) {
+            self.events
+                .push_back_reserved(Event::RegionModified { slot });
+        }
+    }
+
+    /// The event of the slot leaves.
+    pub fn forget(&mut self, slot: u32)
+        ensures { self.new ≡ filter (λ e. not (is_region_of slot e)) self.old }
+    {
+        self.events.retain(|event| !is_region_of(slot, event));
+    }
+
+    /// A mailbox with the same events.
+    pub fn copy(&self, alloc: Global) -> Result<Mailbox, OutOfMemory>
+        ensures { IfOk result (λ copy. copy ≡ self.now) }
+    {
+        Ok(Mailbox {
+            events: copy_of(alloc, &self.events)?,
+            messages: self.messages,
+        })
+    }
+}
+
+// The same events, in room for all that a mailbox holds.
+fn copy_of(alloc: Global, events: &VecDeque<Event>) -> Result<VecDeque<Event>, OutOfMemory>
+    requires { deque_len events.now ≤ 288 }
+    ensures items { IfOk result (λ copy. copy.items ≡ events.now.items) }
+    ensures room { IfOk result (λ copy. deque_capacity copy ≡ 288) }
 {
-    mailbox.iter().filter(|event| is_message(event)).count()
+    let mut copy = VecDeque::with_capacity(alloc, MOST_EVENTS)?;
+    for place in 0..events.len() {
+        copy.push_back_reserved(events[place].copy(alloc)?);
+    }
+    Ok(copy)
+}
+
+/// 16 empty mailboxes.
+pub fn empty_boxes(alloc: Global) -> Result<Vec<Mailbox>, OutOfMemory>
+    ensures { IfOk result (λ boxes. boxes.items ≡ map (λ client. []) (range_with_len 0 16)) }
+{
+    let mut boxes = Vec::new(alloc);
+    for _ in 0..16u32 {
+        boxes.push(Mailbox::new(alloc)?)?;
+    }
+    Ok(boxes)
+}
+
+/// Mailboxes with the same events.
+pub fn copy_boxes(alloc: Global, boxes: &[Mailbox]) -> Result<Vec<Mailbox>, OutOfMemory>
+    ensures { IfOk result (λ all. all.items ≡ boxes.now) }
+{
+    let mut all = Vec::new(alloc);
+    for mailbox in boxes {
+        all.push(mailbox.copy(alloc)?)?;
+    }
+    Ok(all)
 }
 
 fn is_full(boxes: &[Mailbox], client: u32) -> bool
-    ensures { result ≡ nat_le 256 (message_count (mailbox_of (boxes_of boxes.now) client)) }
+    ensures { result ≡ nat_le 256 (message_count (mailbox_of boxes.now client)) }
 {
-    match boxes.get(client as usize) {
-        Some(mailbox) => message_count(mailbox) >= MOST_MESSAGES,
-        None => false,
-    }
+    boxes
+        .get(client as usize)
+        .is_some_and(|mailbox| mailbox.is_full())
 }
 
 /// The first of these clients whose mailbox holds 256 messages.
 pub fn first_full(boxes: &[Mailbox], clients: &[u32]) -> Option<u32>
-    ensures { result ≡ first_full (boxes_of boxes.now) clients.now }
+    ensures { result ≡ first_full boxes.now clients.now }
 {
     clients
         .iter()
         .copied()
         .find(|client| is_full(boxes, *client))
-}
-
-/// 16 empty mailboxes.
-pub fn empty_boxes(alloc: Global) -> Result<Vec<Mailbox>, OutOfMemory>
-    ensures { IfOk result (λ boxes. boxes_of boxes.items ≡ map (λ client. []) (range_with_len 0 16)) }
-{
-    let mut boxes = Vec::new(alloc);
-    for _ in 0..16u32 {
-        boxes.push(VecDeque::new(alloc))?;
-    }
-    Ok(boxes)
-}
-
-fn take_in(mailbox: &mut Mailbox) -> Option<Event>
-    ensures oldest { result ≡ slice_get mailbox.old.items 0 }
-    ensures rest { mailbox.new.items ≡ drop 1 mailbox.old.items }
-    ensures items { mailbox.old.items ≡ option_to_list result ++ mailbox.new.items }
-{
-    mailbox.pop_front()
-}
-
-/// The oldest event leaves the client's mailbox.
-pub fn take_oldest(boxes: &mut [Mailbox], client: u32) -> Option<Event>
-    requires { client < length boxes.old }
-    ensures oldest { result ≡ slice_get (mailbox_of (boxes_of boxes.old) client) 0 }
-    ensures taken { boxes_of boxes.new ≡ slice_set (boxes_of boxes.old) client (drop 1 (mailbox_of (boxes_of boxes.old) client)) }
-    ensures kept { IfNone result (boxes_of boxes.new ≡ boxes_of boxes.old) }
-{
-    take_in(&mut boxes[client as usize])
-}
-
-fn has_region(mailbox: &Mailbox, slot: u32) -> bool
-    ensures { result ≡ list_any (is_region_of slot) mailbox.now.items }
-{
-    mailbox.iter().any(|event| is_region_of(slot, event))
-}
-
-// The event of the slot stands in the mailbox, at its end where it had none.
-fn note_in(mailbox: &mut Mailbox, slot: u32) -> Result<(), OutOfMemory>
-    ensures noted { OnOk result (mailbox.new.items ≡ with_region slot mailbox.old.items) }
-    ensures kept { OnErr result (mailbox.new.items ≡ mailbox.old.items) }
-{
-    if has_region(mailbox, slot) {
-        return Ok(());
-    }
-    mailbox.push_back(Event::RegionModified { slot })?;
-    Ok(())
-}
-
-/// The event of the slot stands in the client's mailbox, at its end where it had none.
-pub fn note_region(boxes: &mut [Mailbox], client: u32, slot: u32) -> Result<(), OutOfMemory>
-    requires { client < length boxes.old }
-    ensures noted { OnOk result (boxes_of boxes.new ≡ slice_set (boxes_of boxes.old) client (with_region slot (mailbox_of (boxes_of boxes.old) client))) }
-    ensures kept { OnErr result (boxes_of boxes.new ≡ boxes_of boxes.old) }
-{
-    note_in(&mut boxes[client as usize], slot)
-}
-
-fn forget_in(mailbox: &mut Mailbox, slot: u32)
-    ensures { mailbox.new.items ≡ filter (λ e. not (is_region_of slot e)) mailbox.old.items }
-{
-    mailbox.retain(|event| !is_region_of(slot, event));
-}
-
-/// The event of the slot leaves the client's mailbox.
-pub fn forget_region(boxes: &mut [Mailbox], client: u32, slot: u32)
-    requires { client < length boxes.old }
-    ensures { boxes_of boxes.new ≡ slice_set (boxes_of boxes.old) client (filter (λ e. not (is_region_of slot e)) (mailbox_of (boxes_of boxes.old) client)) }
-{
-    forget_in(&mut boxes[client as usize], slot);
-}
-
-fn copy_for(
-    alloc: Global,
-    event: &Event,
-    clients: &[u32],
-    client: u32,
-) -> Result<Option<Event>, OutOfMemory>
-    ensures { IfOk result (λ copy. copy ≡ copy_for event.now clients.now client) }
-{
-    if !clients.contains(&client) {
-        return Ok(None);
-    }
-    let copy = event.copy(alloc)?;
-    Ok(Some(copy))
-}
-
-/// For each of the first clients a copy of the event, where it is among these, and else none.
-pub fn copies(
-    alloc: Global,
-    event: &Event,
-    clients: &[u32],
-    count: u32,
-) -> Result<Vec<Option<Event>>, OutOfMemory>
-    ensures { IfOk result (λ all. all.items ≡ map (copy_for event.now clients.now) (range_with_len 0 count)) }
-{
-    let mut all = Vec::new(alloc);
-    for client in 0..count {
-        let copy = copy_for(alloc, event, clients, client)?;
-        all.push(copy)?;
-    }
-    Ok(all)
-}
-
-fn make_room_in(mailbox: &mut Mailbox, receives: bool) -> Result<(), OutOfMemory>
-    ensures kept { mailbox.new.items ≡ mailbox.old.items }
-    ensures room { OnOk result (receives ≡ true → deque_len mailbox.new < deque_capacity mailbox.new) }
-{
-    if receives {
-        mailbox.reserve(1)?;
-    }
-    Ok(())
-}
-
-/// Room for one more event in the mailbox of each of these clients. All mailboxes keep their events.
-pub fn make_room(boxes: &mut [Mailbox], clients: &[u32]) -> Result<(), OutOfMemory>
-    requires { length boxes.old < 2 ^ 32 }
-    ensures kept { boxes_of boxes.new ≡ boxes_of boxes.old }
-    ensures room { OnOk result (HaveRoom boxes.new clients.now (length boxes.old)) }
-{
-    for client in 0..boxes.len() {
-        make_room_in(&mut boxes[client], clients.contains(&(client as u32)))?;
-    }
-    Ok(())
-}
-
-fn deliver_one(mailbox: &mut Mailbox, copy: Option<Event>)
-    requires { IsSome copy → deque_len mailbox.old < deque_capacity mailbox.old }
-    ensures { mailbox.new.items ≡ mailbox.old.items ++ option_to_list copy }
-{
-    if let Some(event) = copy {
-        mailbox.push_back_reserved(event);
-    }
-}
-
-/// Each copy at the end of its mailbox, which has room for it.
-pub fn deliver(boxes: &mut [Mailbox], mut copies: Vec<Option<Event>>)
-    requires same { length copies.items ≡ length boxes.old }
-    requires room { HaveRoomFor boxes.old copies.items 0 }
-    ensures { boxes_of boxes.new ≡ with_copies copies.items (boxes_of boxes.old) }
-{
-    for client in 0..boxes.len() {
-        deliver_one(&mut boxes[client], copies[client].take());
-    }
-}
-
-fn copy_of(alloc: Global, mailbox: &Mailbox) -> Result<Mailbox, OutOfMemory>
-    ensures { IfOk result (λ copy. copy.items ≡ mailbox.now.items) }
-{
-    let mut copy = VecDeque::new(alloc);
-    for place in 0..mailbox.len() {
-        let event = mailbox[place].copy(alloc)?;
-        copy.push_back(event)?;
-    }
-    Ok(copy)
-}
-
-/// Mailboxes with the same events.
-pub fn copy(alloc: Global, boxes: &[Mailbox]) -> Result<Vec<Mailbox>, OutOfMemory>
-    ensures { IfOk result (λ all. boxes_of all.items ≡ boxes_of boxes.now) }
-{
-    let mut all = Vec::new(alloc);
-    for mailbox in boxes {
-        let copy = copy_of(alloc, mailbox)?;
-        all.push(copy)?;
-    }
-    Ok(all)
 }

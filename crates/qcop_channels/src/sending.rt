@@ -1,8 +1,8 @@
 //! Messages to the subscribers of a channel.
-ghost use Rattle.std.specs.Prelude.{◌≡◌, ◌<◌, ◌^◌, length, IfOk, OnOk, OnErr};
-ghost use Rattle.qws_base.specs.Mail.{subscribers_of, delivered};
+ghost use Rattle.std.specs.Prelude.{◌≡◌, ◌-◌, replicate, length, true, None, IfOk};
+ghost use Rattle.qws_base.specs.Mail.{is_message, subscribers_of, first_full, delivered};
 ghost use Rattle.qws_base.specs.declared.replies.Event.TheVariants.{Message};
-ghost use Rattle.qcop_channels.specs.Views.{channels_of, boxes_of, HaveClients};
+ghost use Rattle.qcop_channels.specs.Views.{channels_of, AreDistinctBelow};
 ghost use Rattle.qcop_channels.specs.Stops.{refusal_in, send_cause};
 
 use crate::mailboxes::{self, Mailbox};
@@ -11,6 +11,7 @@ use crate::stops::QcopStop;
 use crate::subscriptions::{self, Known};
 use qws_base::{Bytes, Event, OutOfMemory};
 use std::alloc::Global;
+use std::marker::Model;
 
 /// The most bytes of a payload.
 const MOST_BYTES: usize = 4096;
@@ -24,42 +25,86 @@ pub struct Letter<'a> {
     pub payload: &'a [u8],
 }
 
-fn event_of(
-    alloc: Global,
+/// A message with a copy for each subscriber of its channel: all memory that sending it takes.
+#[derive(Drop)]
+pub struct PreparedSend {
     from: u32,
-    channel: &[u8],
-    message: &[u8],
-    payload: &[u8],
-) -> Result<Event, OutOfMemory>
-    ensures { IfOk result (λ event. event ≡ Message channel.now from message.now payload.now) }
+    channel: Bytes,
+    message: Bytes,
+    payload: Bytes,
+    receivers: Vec<u32>,
+    // For each receiver but one, who gets the parts above.
+    copies: Vec<Event>,
+}
+
+impl Model for PreparedSend {
+    ghost use Rattle.std.specs.Prelude.{◌≡◌, ◌-◌, replicate, length};
+    ghost use Rattle.qws_base.specs.declared.replies.Event.TheVariants.{Message};
+    ghost use Rattle.qcop_channels.specs.Views.{AreDistinctBelow};
+    ghost use Rattle.qcop_channels.specs.Prepared.{SendView};
+
+    ghost Value = { SendView };
+
+    ghost view = { λ s. record { from = s.from; channel = s.channel; message = s.message; payload = s.payload; receivers = s.receivers.items } };
+
+    ghost invariant = { λ s. AreDistinctBelow 16 s.receivers.items × (s.copies.items ≡ replicate (length s.receivers.items - 1) (Message s.channel s.from s.message s.payload)) };
+}
+
+impl PreparedSend {
+    /// The number of clients that get the message.
+    pub fn to(&self) -> u32
+        ensures { result ≡ length self.now.receivers }
+    {
+        self.receivers.len() as u32
+    }
+}
+
+fn bytes_of(alloc: Global, bytes: &[u8]) -> Result<Bytes, OutOfMemory>
+    ensures { IfOk result (λ copy. copy ≡ bytes.now) }
+{
+    Ok(Bytes::of(bytes.to_vec(alloc)?))
+}
+
+fn event_of(alloc: Global, letter: Letter) -> Result<Event, OutOfMemory>
+    ensures { IfOk result (λ event. event ≡ Message letter.entry.channel.now letter.entry.from letter.entry.message.now letter.entry.payload.now) }
 {
     Ok(Event::Message {
-        channel: Bytes::of(channel.to_vec(alloc)?),
-        from,
-        message: Bytes::of(message.to_vec(alloc)?),
-        payload: Bytes::of(payload.to_vec(alloc)?),
+        channel: bytes_of(alloc, letter.channel)?,
+        from: letter.from,
+        message: bytes_of(alloc, letter.message)?,
+        payload: bytes_of(alloc, letter.payload)?,
     })
 }
 
-// The subscribers that a message goes to, or why it doesn't go.
-fn receivers<'a>(
+// That many copies of the message.
+fn copies(alloc: Global, letter: Letter, count: usize) -> Result<Vec<Event>, OutOfMemory>
+    ensures { IfOk result (λ all. all.items ≡ replicate count (Message letter.entry.channel.now letter.entry.from letter.entry.message.now letter.entry.payload.now)) }
+{
+    let mut all = Vec::new(alloc);
+    for _ in 0..count {
+        all.push(event_of(alloc, letter)?)?;
+    }
+    Ok(all)
+}
+
+/// The subscribers that a message goes to, or why it doesn't go.
+pub fn receivers<'a>(
     known: &'a Known,
     boxes: &[Mailbox],
-    channel: &[u8],
-    message: &[u8],
-    payload: &[u8],
+    letter: Letter,
 ) -> Result<&'a [u32], QcopStop>
-    ensures to { IfOk result (λ clients. clients.now ≡ subscribers_of (channels_of known.now.entries) channel.now) }
-    ensures refusal { refusal_in result ≡ send_cause (channels_of known.now.entries) (boxes_of boxes.now) channel.now message.now payload.now }
+    ensures to { IfOk result (λ clients. clients.now ≡ subscribers_of (channels_of known.now.entries) letter.entry.channel.now) }
+    ensures clients { IfOk result (λ clients. AreDistinctBelow 16 clients.now) }
+    ensures refusal { refusal_in result ≡ send_cause (channels_of known.now.entries) boxes.now letter.entry.channel.now letter.entry.message.now letter.entry.payload.now }
 {
-    if !is_name(message) {
+    if !is_name(letter.message) {
         return Err(QcopStop::BadName);
     }
-    if payload.len() > MOST_BYTES {
-        let len = payload.len().min(u32::MAX as usize) as u32;
+    if letter.payload.len() > MOST_BYTES {
+        let len = letter.payload.len().min(u32::MAX as usize) as u32;
         return Err(QcopStop::TooLarge { len });
     }
-    let Some(clients) = subscriptions::subscribers(known, channel) else {
+    let Some(clients) = subscriptions::subscribers(known, letter.channel) else {
         return Err(QcopStop::NoChannel);
     };
     match mailboxes::first_full(boxes, clients) {
@@ -68,45 +113,64 @@ fn receivers<'a>(
     }
 }
 
-// The event at the end of the mailbox of each of these clients. All memory is taken before the first delivery.
-fn deliver_to(
+/// The memory that sending a message to these clients takes.
+pub fn prepare(
     alloc: Global,
-    boxes: &mut [Mailbox],
-    clients: &[u32],
-    event: &Event,
-) -> Result<(), OutOfMemory>
-    requires { length boxes.old ≡ 16 }
-    ensures sent { OnOk result (boxes_of boxes.new ≡ delivered event.now clients.now (boxes_of boxes.old)) }
-    ensures kept { OnErr result (boxes_of boxes.new ≡ boxes_of boxes.old) }
+    receivers: &[u32],
+    letter: Letter,
+) -> Result<PreparedSend, OutOfMemory>
+    requires { AreDistinctBelow 16 receivers.now }
+    ensures { IfOk result (λ send. send ≡ record { from = letter.entry.from; channel = letter.entry.channel.now; message = letter.entry.message.now; payload = letter.entry.payload.now; receivers = receivers.now }) }
 {
-    let copies = mailboxes::copies(alloc, event, clients, 16)?;
-    mailboxes::make_room(boxes, clients)?;
-    mailboxes::deliver(boxes, copies);
-    Ok(())
+    Ok(PreparedSend {
+        from: letter.from,
+        channel: bytes_of(alloc, letter.channel)?,
+        message: bytes_of(alloc, letter.message)?,
+        payload: bytes_of(alloc, letter.payload)?,
+        receivers: receivers.to_vec(alloc)?,
+        copies: copies(alloc, letter, receivers.len().saturating_sub(1))?,
+    })
 }
 
-/// One message at the end of the mailbox of each subscriber, and their number.
-pub fn send(
-    alloc: Global,
-    known: &Known,
-    boxes: &mut [Mailbox],
-    letter: Letter,
-) -> Result<u32, QcopStop>
+/// One message at the end of the mailbox of each receiver.
+pub fn carry(boxes: &mut [Mailbox], send: PreparedSend)
     requires boxes { length boxes.old ≡ 16 }
-    requires clients { HaveClients (channels_of known.now.entries) }
-    ensures sent { OnOk result (boxes_of boxes.new ≡ delivered (Message letter.entry.channel.now letter.entry.from letter.entry.message.now letter.entry.payload.now) (subscribers_of (channels_of known.now.entries) letter.entry.channel.now) (boxes_of boxes.old)) }
-    ensures to { IfOk result (λ to. to ≡ length (subscribers_of (channels_of known.now.entries) letter.entry.channel.now)) }
-    ensures kept { OnErr result (boxes_of boxes.new ≡ boxes_of boxes.old) }
-    ensures refusal { refusal_in result ≡ send_cause (channels_of known.now.entries) (boxes_of boxes.old) letter.entry.channel.now letter.entry.message.now letter.entry.payload.now }
+    requires room { first_full boxes.old send.receivers ≡ None }
+    ensures { boxes.new ≡ delivered (Message send.channel send.from send.message send.payload) send.receivers boxes.old }
 {
-    let clients = receivers(known, boxes, letter.channel, letter.message, letter.payload)?;
-    let event = event_of(
-        alloc,
-        letter.from,
-        letter.channel,
-        letter.message,
-        letter.payload,
-    )?;
-    deliver_to(alloc, boxes, clients, &event)?;
-    Ok(clients.len() as u32)
+    let PreparedSend {
+        from,
+        channel,
+        message,
+        payload,
+        receivers,
+        copies,
+    } = send;
+    let event = Event::Message {
+        channel,
+        from,
+        message,
+        payload,
+    };
+    deliver(boxes, &receivers, event, copies);
+}
+
+// The message, or a copy of it, at the end of the mailbox of each receiver.
+fn deliver(boxes: &mut [Mailbox], receivers: &[u32], message: Event, mut copies: Vec<Event>)
+    requires boxes { length boxes.old ≡ 16 }
+    requires message { is_message message ≡ true }
+    requires receivers { AreDistinctBelow 16 receivers.now }
+    requires room { first_full boxes.old receivers.now ≡ None }
+    requires copies { copies.items ≡ replicate (length receivers.now - 1) message }
+    ensures { boxes.new ≡ delivered message receivers.now boxes.old }
+{
+    let Some((first, others)) = receivers.split_first() else {
+        return;
+    };
+    for client in others {
+        if let Some(copy) = copies.pop() {
+            boxes[*client as usize].put(copy);
+        }
+    }
+    boxes[*first as usize].put(message);
 }

@@ -2,6 +2,7 @@
 ghost use Rattle.std.specs.Prelude.{◌≡◌};
 ghost use Rattle.qcop_channels.specs.declared.stops.QcopStop.TheVariants.{OutOfMemory as no_memory};
 
+use qws_base::Refusal;
 use std::alloc::{AllocError, AllocFailed};
 
 /// Why a call on the channels did nothing.
@@ -25,6 +26,27 @@ pub enum QcopStop {
     Empty,
     /// No memory was there.
     OutOfMemory,
+}
+
+impl QcopStop {
+    ghost use Rattle.qcop_channels.specs.Stops.{refusal_of};
+
+    /// The cause for which a command is refused; none where no memory was there.
+    pub fn cause(self) -> Option<Refusal>
+        ensures { result ≡ refusal_of self }
+    {
+        match self {
+            QcopStop::BadName => Some(Refusal::BadName),
+            QcopStop::Joined => Some(Refusal::Joined),
+            QcopStop::TooManyChannels => Some(Refusal::TooManyChannels),
+            QcopStop::NotJoined => Some(Refusal::NotJoined),
+            QcopStop::TooLarge { len } => Some(Refusal::TooLarge { len }),
+            QcopStop::NoChannel => Some(Refusal::NoChannel),
+            QcopStop::MailboxFull { client } => Some(Refusal::MailboxFull { client }),
+            QcopStop::Empty => Some(Refusal::Empty),
+            QcopStop::OutOfMemory => None,
+        }
+    }
 }
 
 impl From<AllocError> for QcopStop {

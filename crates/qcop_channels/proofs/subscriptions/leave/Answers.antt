@@ -1,8 +1,7 @@
-use Rattle.std.proofs.Common.{◌==◌, [], not, filter, ap, sym, subst, ◌∙◌}
+use Rattle.std.proofs.Common.{◌==◌, [], not, filter, sym, ◌∙◌, arith}
 use Rattle.std.proofs.lemmas.Result.{on_ok_weaker, on_err_weaker}
-use Rattle.qcop_channels.specs.Views.{channels_of, AreClients, HaveClients}
+use Rattle.qcop_channels.specs.Views.{channels_of}
 use Rattle.qcop_channels.proofs.ChannelLemmas.{found_known, not_found_known, written_channels, written_same, leave_cause_known}
-use Rattle.qcop_channels.proofs.ClientLemmas.{AreClients-subscribers_of, HaveClients-set_value}
 use Rattle.qcop_channels.proofs.subscriptions.leave.Goals as goal
 
 pub returns-in-Some-clause-left : goal.returns-in-Some-clause-left
@@ -25,20 +24,15 @@ pub returns-in-Some-clause-refusal : goal.returns-in-Some-clause-refusal
 returns-in-Some-clause-refusal c =
     let v = c.in-Some.subscribers.now in
     let known = found_known c.args.known.now.entries c.args.name.now v (sym c.in-Some.ensures.value) in
-    c.unsubscribe.ensures.refusal ∙ sym (leave_cause_known (channels_of c.args.known.now.entries) c.args.client c.args.name.now v.items known.1)
+    c.unsubscribe.ensures.refusal ∙ sym (leave_cause_known (channels_of c.args.known.now.entries) c.args.client c.args.name.now v known.1)
 
 pub returns-in-None-clause-refusal : goal.returns-in-None-clause-refusal
 returns-in-None-clause-refusal c =
     let unknown = not_found_known c.args.known.now.entries c.args.name.now (sym c.in-None.ensures.value) in
     sym (leave_cause_known (channels_of c.args.known.now.entries) c.args.client c.args.name.now [] unknown.1)
 
-pub unsubscribe-requires : goal.unsubscribe-requires
-unsubscribe-requires c =
-    let before = c.args.known.now.entries in
-    let known = found_known before c.args.name.now c.in-Some.subscribers.now (sym c.in-Some.ensures.value) in
-    subst AreClients known.1 (AreClients-subscribers_of (channels_of before) c.args.name.now c.requires)
-
-pub returns-in-Some-clause-clients : goal.returns-in-Some-clause-clients
-returns-in-Some-clause-clients c =
+pub returns-in-Some-clause-room : goal.returns-in-Some-clause-room
+returns-in-Some-clause-room c =
     let w = c.unsubscribe.new.subscribers in
-    subst HaveClients (sym (ap channels_of (c.get_mut.follows.holds w).0)) (HaveClients-set_value c.args.known.now.entries c.args.name.now w c.requires c.unsubscribe.ensures.clients)
+    let written = c.get_mut.follows.holds w in
+    omega (arith, written.2, written.6)
