@@ -1,1 +1,8 @@
-pub mod StepLemmas
+pub mod RequestLemmas
+pub mod ArrangementLemmas
+pub mod WindowLemmas
+pub mod CheckLemmas
+pub mod PlanLemmas
+pub mod MailPlanLemmas
+pub mod ServedLemmas
+pub mod WindowPlanLemmas

@@ -1,15 +1,18 @@
--- What a core and a plan are seen as, when a plan can be made, and when it belongs to a state.
-use Rattle.std.specs.Prelude.{ℕ, ◌≡◌, ◌≤◌, List, [], length, All, if◌then◌else◌}
+-- What a core and a plan are seen as, and when a plan belongs to a state.
+use Rattle.std.specs.Prelude.{ℕ, ◌≡◌, ◌<◌, ◌≤◌, ◌^◌, ◌-◌, List, length, All}
+use Rattle.std.specs.List.{filter}
 use Rattle.qws_base.specs.Sides.{Sides}
-use Rattle.qws_base.specs.Points.{IsPlaced}
-use Rattle.qws_base.specs.Windows.{is_live}
-use Rattle.qws_base.specs.States.{State, opening_state, step, is_refused}
+use Rattle.qws_base.specs.States.{State, revision_of}
+use Rattle.qws_base.specs.Stacking.{slots}
+use Rattle.qws_base.specs.Shown.{IsShape}
+use Rattle.qws_base.specs.Arranged.{IsArranged}
+use Rattle.qws_base.specs.Steps.{step, is_changed}
 use Rattle.qws_base.specs.declared.windows.WindowView.{WindowView}
+use Rattle.qws_base.specs.declared.windows.Cursor.{Cursor}
 use Rattle.qws_base.specs.declared.commands.Command.{Command}
-use Rattle.qws_base.specs.declared.commands.Command.TheVariants.{Create, Region}
 use Rattle.qws_base.specs.declared.replies.Reply.{Reply}
-use Rattle.qws_base.specs.declared.replies.Reply.TheVariants.{Done, Refused}
-use Rattle.qws_base.specs.declared.replies.Refusal.TheVariants.{NoWindow}
+use Rattle.window_core.specs.declared.changes.MailChange.{MailChange}
+use Rattle.window_core.specs.Changes.{CanCarry, mail_after}
 
 -- the size of the screen, its backdrop as a colour, and the state
 pub record CoreView : Type 0 where
@@ -17,37 +20,44 @@ pub record CoreView : Type 0 where
   pub backdrop : ℕ
   pub state : State
 
--- a state of which these are the windows; the parts that no command changes yet keep their opening values
-abbrev pub state_of : List WindowView → State
-state_of windows = record opening_state { windows = windows }
-
--- a client's command, the reply to it, and the windows after it, if it isn't refused
+-- A client's command with the reply to it, on a screen of that size; the windows, the revisions and the cursor after it, which are the present ones
+-- where it is refused; the slots whose revision rises; and what it does to channels and mailboxes.
 pub record PlanView : Type 0 where
   pub client : ℕ
+  pub size : Sides
   pub command : Command
   pub reply : Reply
   pub windows : List WindowView
-
--- the state after a plan
-abbrev pub planned_state : PlanView → State → State
-planned_state plan state = if is_refused plan.reply then state else record state { windows = plan.windows }
+  pub revisions : List ℕ
+  pub risen : List ℕ
+  pub cursor : Cursor
+  pub change : MailChange
 
 -- a plan belongs to the state that it was made from: it has the step of its command there
-pub record Belongs (plan : PlanView) (state : State) : Type 0 where
-  pub reply : (step state plan.client plan.command).1 ≡ plan.reply
-  pub next : (step state plan.client plan.command).0 ≡ planned_state plan state
+pub record Belongs (size : Sides) (plan : PlanView) (state : State) : Type 0 where
+  pub screen : plan.size ≡ size
+  pub reply : plan.reply ≡ (step size state plan.client plan.command).1
+  pub windows : plan.windows ≡ (step size state plan.client plan.command).0.windows
+  pub revisions : plan.revisions ≡ (step size state plan.client plan.command).0.revisions
+  pub risen : plan.risen ≡ filter (is_changed size state.windows plan.windows) slots
+  pub cursor : plan.cursor ≡ (step size state plan.client plan.command).0.cursor
+  pub can : CanCarry state.mail plan.change
+  pub mail : mail_after state.windows plan.windows plan.change state.mail ≡ (step size state plan.client plan.command).0.mail
 
--- each window's origin is where an origin may be
-abbrev pub AllPlaced : List WindowView → Type 0
-AllPlaced windows = All (λ w. IsPlaced w.origin) windows
+-- the cursor's place is a pixel of the screen, and its sides and cells are those of a shape
+pub record IsCursorOn (size : Sides) (cursor : Cursor) : Type 0 where
+  pub in_columns : cursor.x < size.w
+  pub in_rows : cursor.y < size.h
+  pub shape : IsShape cursor
 
--- The commands that can be planned so far, for a single client: a first window in layer 0 or 1, and a region of at most one
--- rectangle, with an origin in -4,096 to 4,095.
-abbrev pub IsPlannable : State → Command → Type 0
-IsPlannable state (Create layer) = (layer ≤ 1) × (state.windows ≡ [])
-IsPlannable state (Region slot origin rects) = IsPlaced origin × (length rects ≤ 1)
-IsPlannable state command = ⊥
+-- what holds of each state that a server comes to with the clients 0 to 15
+pub record IsServed (size : Sides) (state : State) : Type 0 where
+  pub windows : IsArranged size state.windows
+  pub owners : All (λ w. w.owner < 16) state.windows
+  pub cursor : IsCursorOn size state.cursor
+  pub slots : length state.revisions ≡ 32
+  pub revisions : (slot : ℕ) → slot < 32 → 1 ≤ revision_of state slot
 
--- the reply to a region
-abbrev pub region_reply : List WindowView → ℕ → Reply
-region_reply windows slot = if is_live windows slot then Done else Refused (NoWindow slot)
+-- no revision is the last
+abbrev pub CanRise : State → Type 0
+CanRise state = (slot : ℕ) → slot < 32 → revision_of state slot < 2 ^ 64 - 1

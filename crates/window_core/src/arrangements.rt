@@ -1,0 +1,247 @@
+//! Windows with what follows from them: their stack, what they ask for, and which pixels belong to which slot.
+ghost use Rattle.std.specs.Prelude.{◌≡◌, ◌≢◌, ◌<◌, ◌≤◌, [], IfOk, IfSome, None, Some, AllPairs, map, is_none};
+ghost use Rattle.std.specs.List.{find};
+ghost use Rattle.qws_base.specs.Regions.{IsRegionOf};
+ghost use Rattle.qws_base.specs.Refusals.{off_screen, bad_region};
+ghost use Rattle.qws_base.specs.Windows.{allocated_points, has_slot};
+ghost use Rattle.qws_base.specs.Stacking.{free_slot, windows_created, windows_without, windows_raised, windows_lowered, with_region, with_origin};
+ghost use Rattle.qws_base.specs.Arranged.{IsWindow};
+ghost use Rattle.window_stack.specs.Stacks.{stack_of};
+ghost use Rattle.window_core.specs.Arrangements.{IsRequestOf, OthersAsk};
+
+use crate::requests::{no_request, request_of, with_request};
+use crate::windows::{
+    copy_window, new_window, put_behind, with_new_origin, with_new_region, without,
+};
+use band_regions::Region;
+use qws_base::{OutOfMemory, Point, Rects, Size, WindowView};
+use region_alloc::{
+    Allocation, allocate, allocation_of_windows, others_keep_their_pixels, reallocate,
+};
+use std::alloc::Global;
+use std::marker::Model;
+use window_stack::{Stack, stack_of_windows};
+
+/// Windows from front to back, with a region for each slot.
+#[derive(Drop)]
+pub struct Arrangement {
+    size: Size,
+    windows: Vec<WindowView>,
+    stack: Stack,
+    requests: Vec<Region>,
+    allocation: Allocation,
+}
+
+impl Model for Arrangement {
+    ghost use Rattle.window_core.specs.Arrangements.{ArrangementView, IsKeptFor};
+
+    ghost Value = { ArrangementView };
+
+    ghost view = { λ a. record { size = a.size; windows = a.windows.items } };
+
+    ghost invariant = { λ a. IsKeptFor a.size a.windows.items a.stack a.requests.items a.allocation };
+}
+
+impl Arrangement {
+    /// No window.
+    pub fn new(alloc: Global, size: Size) -> Result<Arrangement, OutOfMemory>
+        ensures { IfOk result (λ a. a ≡ record { size = size; windows = [] }) }
+    {
+        let stack = Stack::new(alloc)?;
+        let mut requests = Vec::new(alloc);
+        while requests.len() < 32 {
+            requests.push(no_request(alloc)?)?;
+        }
+        let allocation = allocate(alloc, &stack, &requests, size)?;
+        Ok(Arrangement {
+            size,
+            windows: Vec::new(alloc),
+            stack,
+            requests,
+            allocation,
+        })
+    }
+
+    /// The size of the screen.
+    pub fn size(&self) -> Size
+        ensures { result ≡ self.now.size }
+    {
+        self.size
+    }
+
+    /// The windows from front to back.
+    pub fn windows(&self) -> &[WindowView]
+        ensures { result.now ≡ self.now.windows }
+    {
+        &self.windows
+    }
+
+    /// The pixels that belong to a slot.
+    pub fn region(&self, slot: u32) -> &Region
+        requires { slot < 32 }
+        ensures { IsRegionOf result.now (allocated_points self.now.size self.now.windows slot) }
+    {
+        allocation_of_windows();
+        self.allocation.region(slot)
+    }
+
+    /// A new window of the client in the least free slot, at the front of its layer; none where no slot is free.
+    pub fn created(
+        &self,
+        alloc: Global,
+        client: u32,
+        layer: u32,
+    ) -> Result<Option<Created>, OutOfMemory>
+        requires { layer ≤ 1 }
+        ensures none { IfOk result (λ made. is_none made ≡ is_none (free_slot self.now.windows)) }
+        ensures slot { IfOk result (λ made. IfSome made (λ created. free_slot self.now.windows ≡ Some created.slot)) }
+        ensures after { IfOk result (λ made. IfSome made (λ created. created.after ≡ record self.now { windows = windows_created client layer self.now.windows })) }
+    {
+        stack_of_windows();
+        let mut stack = self.stack.copy(alloc)?;
+        let Ok(slot) = stack.create(client, layer) else {
+            return Ok(None);
+        };
+        let window = new_window(alloc, slot, client, layer);
+        let others = without(alloc, self.windows(), slot)?;
+        let windows = put_behind(alloc, others, window, layer + 1)?;
+        let request = no_request(alloc)?;
+        let after = self.rearranged(alloc, slot, windows, stack, request)?;
+        Ok(Some(Created { slot, after }))
+    }
+
+    /// Without the window of the slot.
+    pub fn destroyed(&self, alloc: Global, slot: u32) -> Result<Arrangement, OutOfMemory>
+        requires { slot < 32 }
+        ensures { IfOk result (λ after. after ≡ record self.now { windows = windows_without slot self.now.windows }) }
+    {
+        stack_of_windows();
+        let mut stack = self.stack.copy(alloc)?;
+        let _ = stack.destroy(slot);
+        let windows = without(alloc, self.windows(), slot)?;
+        let request = no_request(alloc)?;
+        let after = self.rearranged(alloc, slot, windows, stack, request)?;
+        Ok(after)
+    }
+
+    /// With a new origin and new rectangles of the window of the slot.
+    pub fn with_region(
+        &self,
+        alloc: Global,
+        slot: u32,
+        origin: Point,
+        rects: &Rects,
+    ) -> Result<Arrangement, OutOfMemory>
+        requires slot { slot < 32 }
+        requires origin { off_screen origin ≡ None }
+        requires rects { bad_region rects.now ≡ None }
+        ensures { IfOk result (λ after. after ≡ record self.now { windows = map (with_region slot origin rects.now) self.now.windows }) }
+    {
+        stack_of_windows();
+        let stack = self.stack.copy(alloc)?;
+        let windows = with_new_region(alloc, self.windows(), slot, origin, rects)?;
+        let request = request_of(alloc, origin, rects.as_slice())?;
+        let after = self.rearranged(alloc, slot, windows, stack, request)?;
+        Ok(after)
+    }
+
+    /// With a new origin of the window.
+    pub fn with_origin(
+        &self,
+        alloc: Global,
+        window: &WindowView,
+        origin: Point,
+    ) -> Result<Arrangement, OutOfMemory>
+        requires origin { off_screen origin ≡ None }
+        requires window { find (has_slot window.now.slot) self.now.windows ≡ Some window.now }
+        requires fits { IsWindow window.now }
+        requires once { AllPairs (λ v w. v.slot ≢ w.slot) self.now.windows }
+        ensures { IfOk result (λ after. after ≡ record self.now { windows = map (with_origin window.now.slot origin) self.now.windows }) }
+    {
+        stack_of_windows();
+        let stack = self.stack.copy(alloc)?;
+        let windows = with_new_origin(alloc, self.windows(), window.slot, origin)?;
+        let request = request_of(alloc, origin, window.rects.as_slice())?;
+        let after = self.rearranged(alloc, window.slot, windows, stack, request)?;
+        Ok(after)
+    }
+
+    /// With the window at the front of its layer.
+    pub fn raised(&self, alloc: Global, window: &WindowView) -> Result<Arrangement, OutOfMemory>
+        requires window { find (has_slot window.now.slot) self.now.windows ≡ Some window.now }
+        requires fits { IsWindow window.now }
+        requires once { AllPairs (λ v w. v.slot ≢ w.slot) self.now.windows }
+        ensures { IfOk result (λ after. after ≡ record self.now { windows = windows_raised window.now.slot self.now.windows }) }
+    {
+        stack_of_windows();
+        let mut stack = self.stack.copy(alloc)?;
+        let _ = stack.raise(window.slot);
+        let others = without(alloc, self.windows(), window.slot)?;
+        let copy = copy_window(alloc, window)?;
+        let windows = put_behind(alloc, others, copy, window.layer + 1)?;
+        let request = self.requests[window.slot as usize].copy(alloc)?;
+        let after = self.rearranged(alloc, window.slot, windows, stack, request)?;
+        Ok(after)
+    }
+
+    /// With the window at the back of its layer.
+    pub fn lowered(&self, alloc: Global, window: &WindowView) -> Result<Arrangement, OutOfMemory>
+        requires window { find (has_slot window.now.slot) self.now.windows ≡ Some window.now }
+        requires fits { IsWindow window.now }
+        requires once { AllPairs (λ v w. v.slot ≢ w.slot) self.now.windows }
+        ensures { IfOk result (λ after. after ≡ record self.now { windows = windows_lowered window.now.slot self.now.windows }) }
+    {
+        stack_of_windows();
+        let mut stack = self.stack.copy(alloc)?;
+        let _ = stack.lower(window.slot);
+        let others = without(alloc, self.windows(), window.slot)?;
+        let copy = copy_window(alloc, window)?;
+        let windows = put_behind(alloc, others, copy, window.layer)?;
+        let request = self.requests[window.slot as usize].copy(alloc)?;
+        let after = self.rearranged(alloc, window.slot, windows, stack, request)?;
+        Ok(after)
+    }
+
+    // The arrangement of windows of which that of the slot alone came, went, or has another place or request.
+    fn rearranged(
+        &self,
+        alloc: Global,
+        slot: u32,
+        windows: Vec<WindowView>,
+        stack: Stack,
+        request: Region,
+    ) -> Result<Arrangement, OutOfMemory>
+        requires slot { slot < 32 }
+        requires stack { stack ≡ stack_of windows.items }
+        requires others { windows_without slot stack ≡ windows_without slot (stack_of self.now.windows) }
+        requires asking { OthersAsk self.now.size slot self.now.windows windows.items }
+        requires request { IsRequestOf self.now.size slot windows.items request }
+        ensures { IfOk result (λ after. after ≡ record self.now { windows = windows.items }) }
+    {
+        others_keep_their_pixels();
+        let changed = self.requests[slot as usize].unite(alloc, &request)?;
+        let requests = with_request(alloc, &self.requests, slot, request)?;
+        let allocation = reallocate(
+            alloc,
+            &self.allocation,
+            &stack,
+            &requests,
+            &changed,
+            self.size,
+        )?;
+        Ok(Arrangement {
+            size: self.size,
+            windows,
+            stack,
+            requests,
+            allocation,
+        })
+    }
+}
+
+/// A new window's slot, and the windows with it.
+#[derive(Drop)]
+pub struct Created {
+    pub slot: u32,
+    pub after: Arrangement,
+}
