@@ -1,4 +1,5 @@
 -- What open turns are, and what a refused one leaves.
+use Rattle.region_table.specs.Numbers.{stamp_at}
 use Rattle.fb_words.specs.Clips.{stamp_in}
 use Rattle.fb_words.specs.declared.known.Client.{Client}
 use Rattle.std.specs.Prelude.{◌≡◌, ℕ, [], ◌∷◌, ◌++◌, Some, None, Result, Ok, Err}
@@ -14,7 +15,7 @@ use Rattle.display_lock.specs.declared.turns.ServerTurn.{ServerTurn}
 
 -- let in, with an empty log; of the table it has looked at the stamp
 abbrev pub let_in : PassView → ℕ → PassView
-let_in p stamp = record p { client = record p.client { mode = Reading (Some stamp) None (record { word = 1; value = stamp } ∷ []) [] } }
+let_in p stamp = record p { client = record p.client { mode = Reading (Some stamp) None (record { word = stamp_at; value = stamp } ∷ []) [] } }
 
 -- turned away by the word found
 abbrev pub turned_away : PassView → ℕ → PassView
@@ -28,7 +29,7 @@ abbrev pub client_in : PaintTurn → Client
 client_in t = t.pass.now.client
 
 abbrev pub IsOpen : PaintTurn → Type 0
-IsOpen t = (t.pass.now.screen ≡ t.screen.now) × (reading (client_in t) ≡ 1) × (stamp_in (client_in t).mode ≡ Some t.stamp)
+IsOpen t = (t.pass.now.screen ≡ t.screen.now) × (reading (client_in t) ≡ 1) × (stamp_in (client_in t).mode ≡ Some t.stamp) × ((client_in t).setting ≡ t.screen.now.setting)
 
 -- the same turn, of the same pass on the same screen
 abbrev pub SameTurn : PaintTurn → PaintTurn → Type 0
@@ -48,7 +49,7 @@ IsShutOut h (Ok t) now = Unit {0}
 IsShutOut h (Err busy) now = now ≡ shut_out h busy.found
 
 abbrev pub IsOpenServer : ServerTurn → Type 0
-IsOpenServer t = (t.head.now.screen ≡ t.screen.now) × (t.head.now.server.mode ≡ Writing)
+IsOpenServer t = (t.head.now.screen ≡ t.screen.now) × (t.head.now.server.mode ≡ Writing) × (t.head.now.server.setting ≡ t.screen.now.setting)
 
 -- the same turn, of the same head on the same screen
 abbrev pub SameServerTurn : ServerTurn → ServerTurn → Type 0

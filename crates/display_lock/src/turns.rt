@@ -5,20 +5,23 @@ ghost use Rattle.fb_words.specs.declared.known.Mode.TheVariants.{Idle};
 ghost use Rattle.fb_words.specs.declared.known.ServerMode.TheVariants.{Resting, Closing, Writing};
 ghost use Rattle.qws_base.specs.Points.{pixel_count};
 ghost use Rattle.qws_base.specs.Colours.{IsSceneColour};
-ghost use Rattle.fb_words.specs.Tables.{first_pixel, IsLineWord};
+ghost use Rattle.region_table.specs.Numbers.{closed_gate, stamp_at, first_pixel, IsLineWord};
 ghost use Rattle.fb_words.specs.Rights.{Owns};
-ghost use Rattle.fb_words.specs.declared.known.Item.TheVariants.{Pick, Put};
+ghost use Rattle.turn_logs.specs.declared.items.Item.TheVariants.{Pick, Put};
 ghost use Rattle.region_table.specs.Numbers.{IsTableWord, row_word};
 ghost use Rattle.fb_words.specs.declared.known.KeptClip.{KeptClip};
-ghost use Rattle.fb_words.specs.Clips.{look_of, looked_in, slot_in, spelled, kept, KeepsClips, EachKeepsClips, Sees};
-ghost use Rattle.fb_words.specs.Views.{total, is_client, is_writing, books_in};
-ghost use Rattle.fb_words.specs.Steps.{after_look, after_item, CarriesAtEnd, CarriesAtGive, ReadTells, Knows, arranged, paint_call, after_leave, IsEntryOf, after_announce, after_read, after_write, IsNextTable, after_give, with_step, AllHere, IsBetweenTurns};
+ghost use Rattle.fb_words.specs.Clips.{look_of, looked_in, slot_in, spelled, kept, IsOutsideRow, KeepsClips, EachKeepsClips, Sees};
+ghost use Rattle.turn_logs.specs.Lists.{total};
+ghost use Rattle.fb_words.specs.Views.{is_client, is_writing, books_in};
+ghost use Rattle.fb_words.specs.Steps.{after_look, after_item, CarriesAtEnd, CarriesAtGive, ReadTells, Knows, arranged, paint_call, after_leave, IsEntryOf, after_announce, after_read, after_write, IsNextTable, after_give, with_step, AllHere, IsBetweenTurns, SitsAs};
+ghost use Rattle.qws_base.specs.Books.{BookView};
 ghost use Rattle.fb_words.specs.contracts.tokens.Pass as pass_of;
 ghost use Rattle.fb_words.specs.contracts.tokens.Head as head_of;
 ghost use Rattle.display_lock.specs.Turns.{IsTurned, IsOpen, SameTurn, client_in, turned_away, let_in, IsShutOut, SameServerTurn, IsOpenServer, shut_out, opened, withdrawn};
 
 use fb_words::{Head, Pass, Screen};
 use qws_base::{BookEntry, JournalEntry, Picture};
+use region_table::{CLOSED_GATE, STAMP};
 
 /// The lock was taken: the gate word that was found.
 #[derive(Debug, Drop)]
@@ -39,22 +42,18 @@ pub struct ServerTurn<'a> {
     head: &'a mut Head,
 }
 
-const CLOSED: u64 = 1 << 32;
-
-// The word of the stamp.
-const STAMP: u64 = 1;
-
 // Enters and looks at the stamp, or is turned away.
 fn get_in(screen: &Screen, pass: &mut Pass) -> Result<u64, Busy>
     requires screen { pass.old.screen ≡ screen.now }
     requires idle { pass.old.client.mode ≡ Idle }
     ensures pass { MatchResult result (λ stamp. pass.new ≡ let_in pass.old stamp) (λ busy. pass.new ≡ turned_away pass.old busy.found) }
     ensures seen { IfOk result (λ stamp. (pass.old.client.seen ≤ stamp) × Sees (let_in pass.old stamp).client) }
-    ensures found { IfErr result (λ busy. 2 ^ 32 ≤ busy.found) }
+    ensures found { IfErr result (λ busy. closed_gate ≤ busy.found) }
+    ensures setting { pass.old.client.setting ≡ screen.now.setting }
     ensures kept { KeepsClips pass.old.client pass.new.client }
 {
     let found = screen.enter(pass);
-    if found >= CLOSED {
+    if found >= CLOSED_GATE {
         screen.retreat(pass);
         return Err(Busy { found });
     }
@@ -71,8 +70,9 @@ pub fn try_paint_turn<'a>(pass: &'a mut Pass, screen: &'a Screen) -> Result<Pain
     ensures* refused { sem 𝓛 (RestsIfErr pass_of.the_row pass.entry (λ t. t.pass.ghost_name) result (IsTurned pass.old result)) }
     ensures same_reference { IfOk result (λ turn. turn.pass.ghost_name ≡ pass.entry.ghost_name) }
     ensures open { IfOk result (λ turn. (turn.screen.now ≡ screen.now) × (turn.pass.now ≡ let_in pass.old turn.stamp)) }
+    ensures setting { pass.old.client.setting ≡ screen.now.setting }
     ensures seen { IfOk result (λ turn. (pass.old.client.seen ≤ turn.stamp) × Sees (let_in pass.old turn.stamp).client) }
-    ensures found { IfErr result (λ busy. 2 ^ 32 ≤ busy.found) }
+    ensures found { IfErr result (λ busy. closed_gate ≤ busy.found) }
     ensures kept { MatchResult result (λ turn. KeepsClips pass.old.client (let_in pass.old turn.stamp).client) (λ busy. KeepsClips pass.old.client (turned_away pass.old busy.found).client) }
 {
     let stamp = get_in(screen, pass)?;
@@ -105,10 +105,11 @@ impl<'a> PaintTurn<'a> {
         self.screen
     }
 
-    /// Looks at a table word, and answers its value, the same at each look of the turn. The stamp is the turn's; a revision is at
-    /// least the kept one, and a number of rectangles at most 256. The first revision that is looked at fixes the turn's slot.
-    /// Where the looked words spell the whole row of that slot, and the client owns it, the row is the slot's kept clip from
-    /// then on; those of other slots stay.
+    /// Looks at a table word, and answers its value, the same at each look of the turn. It is found among the looked words from
+    /// then on. The stamp is the turn's; a revision is at least 1 and at least the kept one, and a number of rectangles at most
+    /// 256. The first revision that is looked at fixes the turn's slot. Where the looked words spell the whole row of that slot,
+    /// and the client owns it, the row is the slot's kept clip from then on; those of other slots stay, and so does that of
+    /// each slot of whose row the word isn't.
     pub fn look(&mut self, word: u64) -> u64
         requires open { IsOpen self.old }
         requires table { IsTableWord word }
@@ -117,11 +118,17 @@ impl<'a> PaintTurn<'a> {
         ensures pass { client_in self.new ≡ after_look (client_in self.old) word result }
         ensures present { Sees (client_in self.new) }
         ensures value { (value : ℕ) → look_of (looked_in (client_in self.old).mode) word ≡ Some value → result ≡ value }
+        ensures found { look_of (looked_in (client_in self.new).mode) word ≡ Some result }
+        ensures stays { (other value : ℕ) → look_of (looked_in (client_in self.old).mode) other ≡ Some value → look_of (looked_in (client_in self.new).mode) other ≡ Some value }
+        ensures from_one { (slot : ℕ) → slot < 33 → word ≡ row_word slot + 1 → 1 ≤ result }
         ensures revision { (slot : ℕ) (clip : KeptClip) → slot < 33 → word ≡ row_word slot + 1 → kept (client_in self.old) slot ≡ Some clip → clip.revision ≤ result }
-        ensures stamp { word ≡ 1 → result ≡ self.old.stamp }
+        ensures stamp { word ≡ stamp_at → result ≡ self.old.stamp }
         ensures count { (slot : ℕ) → slot < 33 → word ≡ row_word slot + 3 → result ≤ 256 }
         ensures row { (slot : ℕ) (clip : KeptClip) → slot_in (client_in self.new).mode ≡ Some slot → spelled (client_in self.new).number slot (looked_in (client_in self.new).mode) ≡ Some clip → kept (client_in self.new) slot ≡ Some clip }
         ensures kept { (slot : ℕ) → (slot_in (client_in self.new).mode ≡ Some slot → ⊥) → kept (client_in self.new) slot ≡ kept (client_in self.old) slot }
+        ensures away { (slot : ℕ) → IsOutsideRow slot word → kept (client_in self.new) slot ≡ kept (client_in self.old) slot }
+        ensures current { (slot : ℕ) (clip : KeptClip) → slot_in (client_in self.new).mode ≡ Some slot → kept (client_in self.old) slot ≡ Some clip → look_of (looked_in (client_in self.new).mode) (row_word slot + 1) ≡ Some clip.revision → kept (client_in self.new) slot ≡ Some clip }
+        ensures owns { (x : ℕ) → Owns (client_in self.old) x → Owns (client_in self.new) x }
     {
         self.screen.look(self.pass, word)
     }
@@ -188,8 +195,9 @@ fn take_over(screen: &Screen, head: &mut Head) -> Result<(), Busy>
     requires screen { head.old.screen ≡ screen.now }
     requires not_writing { is_writing head.old.server.mode ≡ false }
     ensures head { MatchResult result (λ _. head.new ≡ opened head.old) (λ busy. head.new ≡ shut_out head.old busy.found) }
-    ensures found { IfErr result (λ busy. busy.found ≡ 2 ^ 32 → ⊥) }
+    ensures found { IfErr result (λ busy. busy.found ≡ closed_gate → ⊥) }
     ensures between { IsBetweenTurns head.old.server }
+    ensures setting { head.old.server.setting ≡ screen.now.setting }
     ensures free { IfErr result (λ busy. AllHere head.old.server head.old.sitting → ⊥) }
     ensures known { AllHere head.old.server head.old.sitting → Knows head.old.server (arranged (length head.old.server.limits) head.old.sitting) }
 {
@@ -210,8 +218,9 @@ pub fn try_server_turn<'a>(head: &'a mut Head, screen: &'a Screen) -> Result<Ser
     ensures* refused { sem 𝓛 (RestsIfErr head_of.the_row head.entry (λ t. t.head.ghost_name) result (IsShutOut head.old result)) }
     ensures same_reference { IfOk result (λ turn. turn.head.ghost_name ≡ head.entry.ghost_name) }
     ensures open { IfOk result (λ turn. (turn.screen.now ≡ screen.now) × (turn.head.now ≡ opened head.old)) }
-    ensures found { IfErr result (λ busy. busy.found ≡ 2 ^ 32 → ⊥) }
+    ensures found { IfErr result (λ busy. busy.found ≡ closed_gate → ⊥) }
     ensures between { IsBetweenTurns head.old.server }
+    ensures setting { head.old.server.setting ≡ screen.now.setting }
     ensures free { IfErr result (λ busy. AllHere head.old.server head.old.sitting → ⊥) }
     ensures known { AllHere head.old.server head.old.sitting → Knows head.old.server (arranged (length head.old.server.limits) head.old.sitting) }
 {
@@ -226,6 +235,7 @@ impl<'a> ServerTurn<'a> {
         requires open { IsOpenServer self.old }
         requires word { (1 ≤ word) × (word < first_pixel + pixel_count self.old.screen.now.setting.size) }
         ensures same { SameServerTurn self.old self.new }
+        ensures open { IsOpenServer self.new }
         ensures head { self.new.head.now ≡ record self.old.head.now { server = after_read self.old.head.now.server word result } }
         ensures tells { ReadTells self.old.head.now.server self.old.head.now.sitting word result }
     {
@@ -238,6 +248,7 @@ impl<'a> ServerTurn<'a> {
         requires word { (1 ≤ word) × (word < first_pixel + pixel_count self.old.screen.now.setting.size) }
         requires colour { IsLineWord word → IsSceneColour self.old.head.now.server.setting.depth value }
         ensures same { SameServerTurn self.old self.new }
+        ensures open { IsOpenServer self.new }
         ensures head { self.new.head.now ≡ record self.old.head.now { server = after_write self.old.head.now.server word value } }
     {
         self.screen.write(self.head, word, value);
@@ -253,6 +264,7 @@ impl<'a> ServerTurn<'a> {
         requires carries { CarriesAtGive self.head.now.server entry.now }
         ensures head { self.exit.1.0.now ≡ record self.entry.head.now { server = after_give self.entry.head.now.server entry.now; sitting = map (with_step entry.now) self.entry.head.now.sitting } }
         ensures kept { EachKeepsClips self.entry.head.now.sitting self.exit.1.0.now.sitting }
+        ensures stubs { (stub : BookView) → SitsAs stub self.entry.head.now.sitting → SitsAs stub self.exit.1.0.now.sitting }
     {
         let ServerTurn { screen, head } = self;
         screen.give(head, entry);

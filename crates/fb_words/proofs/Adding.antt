@@ -10,27 +10,29 @@ use Rattle.qws_base.specs.Points.{pixel_count}
 use Rattle.qws_base.specs.Colours.{IsSceneColour}
 use Rattle.qws_base.specs.Scenes.{Setting}
 use Rattle.region_table.specs.Numbers.{pixel_word}
-use Rattle.fb_words.specs.declared.known.Item.{Item}
-use Rattle.fb_words.specs.declared.known.Item.TheVariants.{Pick, Put}
+use Rattle.turn_logs.specs.declared.items.Item.{Item}
+use Rattle.turn_logs.specs.declared.items.Item.TheVariants.{Pick, Put}
 use Rattle.fb_words.specs.declared.known.Looked.{Looked}
 use Rattle.fb_words.specs.declared.known.Mode.{Mode}
 use Rattle.fb_words.specs.declared.known.Mode.TheVariants.{Idle, Refused, Reading}
 use Rattle.fb_words.specs.declared.known.Client.{Client}
 use Rattle.fb_words.specs.declared.known.View.{View}
-use Rattle.fb_words.specs.Lines.{item_word, written, Shows}
+use Rattle.turn_logs.specs.Lines.{item_word, written, Shows}
 use Rattle.fb_words.specs.Segments.{line, first_value, LineOk}
 use Rattle.fb_words.specs.Clips.{look_of, stamp_in, slot_in, looked_in, log_in, IsClip}
 use Rattle.fb_words.specs.Rights.{IsSavedOver, IsGiven, Owns}
-use Rattle.fb_words.specs.Views.{busy, reading, busy_mode, reading_mode, shut, is_writing, steps_in, alone}
-use Rattle.fb_words.specs.Rule.{World, SeatOk, OrderOk, steps_of, ClipsOk, LooksOk, OpenRights, PaintsOk, Fits, Holds}
+use Rattle.fb_words.specs.Views.{busy, reading, busy_mode, reading_mode, shut, is_writing, alone}
+use Rattle.fb_words.specs.Rule.{Parts, SeatOk, ClipsOk, LooksOk, OpenRights, Fits, Holds}
 use Rattle.fb_words.specs.Steps.{item_mode, after_item, picked, put}
 use Rattle.fb_words.proofs.Places.{each_of, each_set}
-use Rattle.fb_words.proofs.Totals.{total_set}
-use Rattle.fb_words.proofs.Joining.{written-append, shows-append}
-use Rattle.fb_words.proofs.Rows.{none_some, line_far, seen_row, kept_is}
+use Rattle.turn_logs.proofs.Totals.{total_set}
+use Rattle.turn_logs.proofs.Joining.{written-append, shows-append}
+use Rattle.turn_logs.proofs.Options.{none_some}
+use Rattle.region_table.proofs.Words.{line_far}
+use Rattle.fb_words.proofs.Rows.{seen_row, kept_is}
 use Rattle.fb_words.proofs.Cells.{word_far, word_within}
 use Rattle.fb_words.proofs.Spreads.{with_client, client_steps}
-use Rattle.fb_words.proofs.Gate.{looks_kept, tables_kept, part_of, IsAlone}
+use Rattle.fb_words.proofs.Gate.{closed_client, looks_kept, tables_kept, part_of, IsAlone}
 use Rattle.fb_words.proofs.Painting.{before, grown, others_away, late_none, line_gains, line_stays}
 use Rattle.fb_words.proofs.Keeping.{owned_in}
 use Rattle.fb_words.proofs.Looking.{no_turn, present_table, looks_present, looks_in, stamped_reads, stamp_now}
@@ -39,10 +41,10 @@ abbrev Mine : Type 0
 Mine = Me (Unit {0}) View
 
 -- what a client owns in its turn, the present table gives it
-pub owned : (key : Setting) (words : List ℕ) (w : World) (p : Client) (x : ℕ) → Fits key words w → get_elem? w.clients p.number ≡ some p → is_writing w.server.mode ≡ false → (o : Owns p x) → IsGiven key.size w.server.present p.number o.clip.slot x
+pub owned : (key : Setting) (words : List ℕ) (w : Parts) (p : Client) (x : ℕ) → Fits key words w → get_elem? w.clients p.number ≡ some p → is_writing w.server.mode ≡ false → (o : Owns p x) → IsGiven key.size w.server.present p.number o.clip.slot x
 owned key words w p x f at idle o =
     let s = w.server in let t = s.present in let last = f.tables.last idle in
-    let looks = looks_present key.size words s p.mode f.tables (f.looks p.number p at) in
+    let looks = looks_present words s p.mode f.tables (f.looks p.number p at) in
     let clip_ok : IsClip key.size t p.number o.clip = (kept_is p o.clip.slot o.clip (IsClip key.size t p.number)
     (λ c e. (seen_row key.size (length s.limits) (length s.closed) p.number t p.mode c (present_table key words w f idle) looks e).0)
     (λ k c e. f.clips p.number p at k c t e last) o.kept_clip).0 in
@@ -54,7 +56,7 @@ owns_within p x o = ⊎_elim (λ (e : x ≡ pixel_word o.pixel). let lt = o.on_s
     word_within p.setting.size d.0 d.1 o.pixel x o.on_screen (inr d.4)) o.word
 
 -- the item i on the word x, which becomes v
-pub adds_item : (key : Setting) (words : List ℕ) (w : World) (p : Client) (S : ℕ) (looked : List Looked) (log : List Item) (i : Item) (x v : ℕ) → Fits key words w → get_elem? w.clients p.number ≡ some p → is_writing w.server.mode ≡ false
+pub adds_item : (key : Setting) (words : List ℕ) (w : Parts) (p : Client) (S : ℕ) (looked : List Looked) (log : List Item) (i : Item) (x v : ℕ) → Fits key words w → get_elem? w.clients p.number ≡ some p → is_writing w.server.mode ≡ false
     → p.mode ≡ before p (length w.server.closed) S looked log i → IsGiven key.size w.server.present p.number S x → item_word i ≡ x
     → written (get_or words x 0) (i ∷ []) ≡ v → Shows (get_or words x 0) (i ∷ []) → IsSceneColour key.depth v
     → Fits key (set words x v) (with_client w (grown p (length w.server.closed) S looked log i))
@@ -67,8 +69,8 @@ adds_item key words w p S looked log i x v f at idle is mine same value shows co
     let within : x < length words = (let lt = word_within key.size (get_or s.present 2 0) (get_or s.present 3 0) mine.pixel x mine.on_screen mine.word in let long = f.setting.long in omega arith) in
     let here = f.lines x far within in
     let gained = line_gains x s cs p S looked log i (f.quiet idle) is same at
-    (λ c r e apart. others_away key (length s.limits) E s words p.number c S x r (λ eq2. apart (sym eq2)) table (f.tables.last idle) mine (f.looks c r e) (f.rights c r e) (f.paints c r e))
-    (λ c r e. late_none words E x (suc E) r (omega arith) (f.order c r e) (f.looks c r e)) in
+    (λ c r e apart. others_away key (length s.limits) E s words p.number c S x r (λ eq2. apart (sym eq2)) table (f.tables.last idle) mine (f.looks c r e) (f.rights c r e) (f.closed.paints c r e))
+    (λ c r e. late_none words E x (suc E) r (omega arith) (f.closed.order c r e) (f.looks c r e)) in
     let stays : (y : ℕ) → y ≢ x → line y s (set cs p.number q) ≡ line y s cs = (λ y ne. line_stays y s cs p S looked log i is (λ eq. ne (sym eq ∙ same)) at) in record {
       setting = record { long = length-set words x v ∙ f.setting.long; screen = f.setting.screen; colour = f.setting.colour; server = f.setting.server };
       gate = let sum = total_set busy cs p.number p q at in get_or-set_other words x 0 v 0 (λ eq. absurd (omega arith)) ∙ f.gate ∙ ap (λ n. shut s.mode + n) (omega arith);
@@ -76,17 +78,14 @@ adds_item key words w p S looked log i x v f at idle is mine same value shows co
       as_many = f.as_many ∙ sym (length-set cs p.number q);
       few = rw (length-set cs p.number q) f.few;
       seats = each_set (SeatOk key s) cs p.number q (λ c r _ e. f.seats c r e) (let ok = f.seats p.number p at in record { setting_is = ok.setting_is; number_is = ok.number_is; limit_is = ok.limit_is });
-      order = each_set (λ c r. OrderOk E r) cs p.number q (λ c r _ e. f.order c r e) (let ok = f.order p.number p at in record { rises = ok.rises; seen_own = ok.seen_own; seen_within = ok.seen_within });
-      own_steps = each_set (λ c r. steps_in r.own ≡ steps_of c 0 s.closed) cs p.number q (λ c r _ e. f.own_steps c r e) (f.own_steps p.number p at);
-      named = f.named;
-      tables = tables_kept key.size words x v s far f.tables;
+      closed = closed_client key s cs p q f.closed (let ok = f.closed.order p.number p at in record { rises = ok.rises; seen_own = ok.seen_own; seen_within = ok.seen_within })
+          (f.closed.own_steps p.number p at) (f.closed.paints p.number p at);
+      tables = tables_kept words x v s far f.tables;
       clips = each_set (ClipsOk key.size s) cs p.number q (λ c r _ e. f.clips c r e) (f.clips p.number p at);
       looks = each_set (λ c r. LooksOk (set words x v) E r.mode) cs p.number q (λ c r _ e. looks_kept words x v E r.mode far (f.looks c r e))
           (looks_kept words x v E (Reading (Some E) (Some S) looked (log ++ i ∷ [])) far (looks.0, looks.1, looks.2));
       rights = each_set (λ c r. OpenRights key.size s.present c r.mode) cs p.number q (λ c r _ e. f.rights c r e)
           (each_of (λ k j. IsGiven key.size s.present p.number S (item_word j)) log i rights (subst (IsGiven key.size s.present p.number S) (sym same) mine));
-      paints = each_set (PaintsOk key s) cs p.number q (λ c r _ e. f.paints c r e) (f.paints p.number p at);
-      steps = f.steps;
       quiet = f.quiet;
       lines = λ y far_y hi. dite (ℕ_discrete y x)
           (λ (eq : y ≡ x). subst (λ z. LineOk key z (get_or (set words x v) z 0) (line z s (set cs p.number q))) (sym eq) (
@@ -111,7 +110,7 @@ opened_by Refused e s is at = none_some e is
 opened_by (Reading st sl looked log) e s is at = ap (λ o. Reading o sl looked log) is ∙ ap (λ o. Reading (Some e) o looked log) at
 
 -- the same for a seat: what a pick and a put share
-module _ (key : Setting) (words : List ℕ) (w : World) (p : Client) (x : ℕ) (f : Fits key words w) (at : get_elem? w.clients p.number ≡ some p) (o : Owns p x) where
+module _ (key : Setting) (words : List ℕ) (w : Parts) (p : Client) (x : ℕ) (f : Fits key words w) (at : get_elem? w.clients p.number ≡ some p) (o : Owns p x) where
   idle_now : is_writing w.server.mode ≡ false
   idle_now = no_turn key words w p f at (stamped_reads p.mode o.stamp o.stamped)
 

@@ -4,10 +4,10 @@ use Rattle.std.proofs.lemmas.Int.{ints}
 use Rattle.std.proofs.lemmas.Nat.{div-add-mod'}
 use Rattle.qws_base.specs.Sides.{Sides}
 use Rattle.qws_base.specs.Points.{spans, pixel_count}
-use Rattle.region_table.specs.Numbers.{pixel_word}
-use Rattle.fb_words.specs.Tables.{IsLineWord, owner_in, RowHas, IsTable}
+use Rattle.region_table.specs.Numbers.{pixel_word, IsLineWord}
+use Rattle.turn_logs.specs.Tables.{owner_in, RowHas, IsTable}
 use Rattle.fb_words.specs.Rights.{cell_over, IsSavedOver, IsWordOf, IsGiven}
-use Rattle.fb_words.proofs.Rows.{none_some, same_some}
+use Rattle.turn_logs.proofs.Options.{none_some, same_some}
 
 both : (a b : Bool) → (a && b) ≡ true → (a ≡ true) × (b ≡ true)
 both true b h = (refl, h)

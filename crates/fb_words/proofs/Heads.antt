@@ -1,5 +1,6 @@
 -- What a head keeps, and what the clients that sit with it have seen.
 use Rattle.std.proofs.Common.{◌≡◌, ◌≢◌, ℕ, ◌<◌, ◌≤◌, ◌==◌, if◌then◌else◌, Bool, true, false, List, [], ◌∷◌, ◌++◌, map, length, get_or, set, sym, refl, ap, ◌∙◌, subst, arith, ⊎_elim}
+use Rattle.std.specs.List.{flat_map}
 use Rattle.std.proofs.lemmas.List.{get_or-set_other, get_or-set_same}
 use mathlib.Core.Option.{some, some-ne-none}
 use lib.ListN.{get_elem?}
@@ -11,11 +12,13 @@ use Rattle.fb_words.specs.declared.known.Mode.TheVariants.{Idle, Refused, Readin
 use Rattle.fb_words.specs.declared.known.ServerMode.TheVariants.{Writing}
 use Rattle.fb_words.specs.declared.known.Client.{Client}
 use Rattle.fb_words.specs.declared.known.View.{View}
-use Rattle.fb_words.specs.Views.{total, is_client, busy, busy_mode, is_closing, alone, only, head_view, the_server, both_views, client_of, without, HasSeen}
+use Rattle.turn_logs.specs.Lists.{total}
+use Rattle.fb_words.specs.Views.{is_client, busy, busy_mode, is_closing, alone, only, head_view, the_server, both_views, client_of, without, HasSeen}
 use Rattle.fb_words.specs.Steps.{after_give, with_step, AllSit, SitOnce, AllHere, Knows, arranged}
 use Rattle.fb_words.proofs.Places.{at_end}
-use Rattle.fb_words.proofs.Totals.{total_snoc, total_one, total_two, total_map, from_map}
-use Rattle.fb_words.proofs.Spreads.{is_itself, place_within}
+use Rattle.turn_logs.proofs.Totals.{total_snoc, total_one, total_two, total_map, from_map}
+use Rattle.fb_words.proofs.Spreads.{is_itself}
+use Rattle.turn_logs.proofs.Joining.{place_within}
 use Rattle.fb_words.proofs.Sitting.{client_of_here, still_there}
 use Rattle.fb_words.proofs.Serving.{by_number, same_mode, IsHead}
 
@@ -71,7 +74,7 @@ abbrev Mine : Type 0
 Mine = Me (Unit {0}) View
 
 pub joined_is_head : (m me : Mine) (u : View) → m ≡ (both_views me.0 u, me.1) → IsHead me → IsHead m
-joined_is_head m me u joined is = let P : Mine → Type 0 = IsHead in subst P (sym joined)
+joined_is_head m me u flat_map is = let P : Mine → Type 0 = IsHead in subst P (sym flat_map)
     (ap (λ (x : Mine). let y : Mine = (record { server = x.0.server; clients = me.0.clients ++ u.clients }, x.1) in y) is)
 
 pub same_seat_sits : (m me : Mine) → m ≡ me → AllSit (the_server me.0) me.0.clients → AllSit (the_server m.0) m.0.clients
@@ -103,21 +106,21 @@ risen_head m me c n b seen is kept = let P : Mine → Type 0 = λ x. HeadKeeps x
 -- the client q has come to sit, with what it has seen at the place of its number
 pub joined_head : (m x me : Mine) (u : View) (n c v : ℕ) (b : Bool) (seen : List ℕ) → m ≡ x → x ≡ (both_views me.0 u, me.1) → HeadKeeps me n b seen → length seen ≡ 16 → u ≡ alone (only u.clients) → busy (only u.clients) ≡ 0
     → c ≡ (only u.clients).number → v ≡ (only u.clients).seen → c < 16 → SitOnce x.0.clients → HeadKeeps m n b (set seen c v)
-joined_head m x me u n c v b seen same joined kept long is idle number saw few once = let q = only u.clients in let P : Mine → Type 0 = λ y. HeadKeeps y n b (set seen c v) in
-    let here : x.0.clients ≡ me.0.clients ++ q ∷ [] = ap (λ (y : Mine). y.0.clients) joined ∙ ap (λ w. me.0.clients ++ w.clients) is in
+joined_head m x me u n c v b seen same flat_map kept long is idle number saw few once = let q = only u.clients in let P : Mine → Type 0 = λ y. HeadKeeps y n b (set seen c v) in
+    let here : x.0.clients ≡ me.0.clients ++ q ∷ [] = ap (λ (y : Mine). y.0.clients) flat_map ∙ ap (λ w. me.0.clients ++ w.clients) is in
     subst P (sym same) (
-      joined_is_head x me u joined kept.0,
-      subst (λ (y : Mine). length (the_server y.0).limits ≡ n) (sym joined) kept.1,
+      joined_is_head x me u flat_map kept.0,
+      subst (λ (y : Mine). length (the_server y.0).limits ≡ n) (sym flat_map) kept.1,
       ap (total busy) here ∙ (let sum = total_snoc busy me.0.clients q in let a = kept.2 in omega arith),
-      subst (λ (y : Mine). b ≡ is_closing (the_server y.0).mode) (sym joined) kept.3,
+      subst (λ (y : Mine). b ≡ is_closing (the_server y.0).mode) (sym flat_map) kept.3,
       subst (HasSeen (set seen c v)) (sym here) (subst (λ k. HasSeen (set seen k v) (me.0.clients ++ q ∷ [])) (sym number) (subst (λ k. HasSeen (set seen q.number k) (me.0.clients ++ q ∷ [])) (sym saw)
           (seen_sat seen me.0.clients q long kept.4 (subst SitOnce here once) (subst (λ k. k < 16) number few)))),
     )
 
 -- one who sits has one of the sixteen numbers
 pub joined_within : (x me : Mine) (u : View) → x ≡ (both_views me.0 u, me.1) → u ≡ alone (only u.clients) → AllSit (the_server x.0) x.0.clients → length (the_server x.0).limits ≤ 16 → (only u.clients).number < 16
-joined_within x me u joined is sits few = let q = only u.clients in
-    let here : x.0.clients ≡ me.0.clients ++ q ∷ [] = ap (λ (y : Mine). y.0.clients) joined ∙ ap (λ w. me.0.clients ++ w.clients) is in
+joined_within x me u flat_map is sits few = let q = only u.clients in
+    let here : x.0.clients ≡ me.0.clients ++ q ∷ [] = ap (λ (y : Mine). y.0.clients) flat_map ∙ ap (λ w. me.0.clients ++ w.clients) is in
     let at : get_elem? x.0.clients (length me.0.clients) ≡ some q = ap (λ l. get_elem? l (length me.0.clients)) here ∙ at_last me.0.clients q (length me.0.clients) refl in
     let lt = place_within (the_server x.0).limits q.number q.step_limit (sits (length me.0.clients) q at).limit in omega arith
 

@@ -2,8 +2,8 @@
 use Rattle.std.proofs.Common.{◌≡◌, ◌≢◌, ℕ, ◌+◌, ◌<◌, ◌≤◌, ◌==◌, nat_lt, ⊎_elim, inl, inr, eq-eqb, ne_eqb, if◌then◌else◌, Bool, true, false, List, [], ◌∷◌, ◌++◌, map, get_or, sym, refl, ap, ◌∙◌, subst, arith, Option, Some, None}
 use mathlib.Core.Option.{some-injective}
 use Rattle.qws_base.specs.declared.journals.JournalEntry.{JournalEntry}
-use Rattle.region_table.specs.Numbers.{row_word, pixel_word, IsTableWord}
-use Rattle.fb_words.specs.declared.known.Item.{Item}
+use Rattle.region_table.specs.Numbers.{row_word, pixel_word, IsTableWord, revision_of_slot}
+use Rattle.turn_logs.specs.declared.items.Item.{Item}
 use Rattle.fb_words.specs.declared.known.Looked.{Looked}
 use Rattle.fb_words.specs.declared.known.KeptClip.{KeptClip}
 use Rattle.fb_words.specs.declared.known.PaintCall.{PaintCall}
@@ -12,14 +12,15 @@ use Rattle.fb_words.specs.declared.known.Mode.TheVariants.{Idle, Refused, Readin
 use Rattle.fb_words.specs.declared.known.Client.{Client}
 use Rattle.qws_base.specs.Sides.{Sides}
 use Rattle.qws_base.specs.Points.{pixel_count}
-use Rattle.fb_words.specs.Tables.{revision_of_slot, RectHas}
+use Rattle.turn_logs.specs.Tables.{RectHas}
 use Rattle.fb_words.specs.Clips.{look_of, looked_in, slot_in, spelled, row_seen, stored, if_slot, kept, with_row, KeepsClips, EachKeepsClips, IsClip, LooksTrue, Sees, KeptLaw}
 use Rattle.fb_words.specs.Steps.{or_first, looked_mode, after_enter, after_retreat, after_look, item_mode, after_item, after_leave, with_step}
-use Rattle.fb_words.proofs.Rows.{none_some, same_some, look_true, spelt_from, spelt_row, kept_is}
+use Rattle.turn_logs.proofs.Options.{none_some, same_some}
+use Rattle.fb_words.proofs.Rows.{look_true, spelt_from, spelt_row, kept_is}
 use Rattle.fb_words.specs.Rights.{IsSavedOver, IsGiven, Owns, OwnedLaw}
-use Rattle.fb_words.proofs.Spreads.{place_within}
+use Rattle.turn_logs.proofs.Joining.{place_within}
 use Rattle.fb_words.proofs.Serving.{by_number}
-use Rattle.fb_words.proofs.Totals.{from_map}
+use Rattle.turn_logs.proofs.Totals.{from_map}
 
 -- ---- steps that leave it
 
@@ -101,7 +102,7 @@ row_kept p slot clip at is = go p.mode at is
 row_in : (slot : ℕ) → IsTableWord (row_word slot + 1) → slot < 33
 row_in slot t = ⊎_elim (λ (a : (1 ≤ row_word slot + 1) × (row_word slot + 1 ≤ 1027)). let z = a.1 in omega arith) (λ (b : (2052 ≤ row_word slot + 1) × (row_word slot + 1 ≤ 10631)). let z = b.1 in omega arith) t
 
-seen_judged : (p : Client) (v : Sees p) (m : Mode) (clip : KeptClip) → LooksTrue v.table (looked_in m) → row_seen p.number m ≡ Some clip → IsClip p.setting.size v.table p.number clip
+pub seen_judged : (p : Client) (v : Sees p) (m : Mode) (clip : KeptClip) → LooksTrue v.table (looked_in m) → row_seen p.number m ≡ Some clip → IsClip p.setting.size v.table p.number clip
 seen_judged p v Idle clip ok e = none_some clip e
 seen_judged p v Refused clip ok e = none_some clip e
 seen_judged p v (Reading stamp None looked log) clip ok e = none_some clip e

@@ -1,8 +1,6 @@
 pub mod Places
-pub mod Totals
 pub mod Spreads
 pub mod Rows
-pub mod Joining
 pub mod Cells
 pub mod Painting
 pub mod Sitting
@@ -13,7 +11,14 @@ pub mod Heads
 pub mod Looking
 pub mod Adding
 pub mod Opening
-pub mod Carrying
-pub mod Law
-pub mod Standing
-pub mod Sessions
+pub mod Owned
+pub mod Here
+pub mod Clipped
+pub mod ByNumber
+pub mod Whole
+pub mod Found
+pub mod Desks
+pub mod ServerLogs
+pub mod Calls
+pub mod Looks
+pub mod Going

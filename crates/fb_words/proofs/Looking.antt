@@ -1,19 +1,21 @@
 -- A look, and a leave that closes a turn, keep the words and the world in step.
 use Rattle.fb_words.proofs.Painting.{look_rights, look_items, rights_log, open_as}
-use Rattle.fb_words.proofs.Joining.{joined-append}
-use Rattle.fb_words.specs.Segments.{joined, call_items, client_items}
+use Rattle.turn_logs.proofs.Joining.{joined-append}
+use Rattle.turn_logs.specs.Lists.{total}
+use Rattle.fb_words.specs.Segments.{call_items, client_items}
 use Rattle.fb_words.specs.Rights.{LogIn}
-use Rattle.fb_words.specs.Carries.{is_painted, CarriesPaintUnder, RepliesUnder}
+use Rattle.turn_logs.specs.Carries.{is_painted, CarriesPaintUnder, RepliesUnder}
 use Rattle.qws_base.specs.Sheets.{Sheet}
 use Rattle.qws_base.specs.Scenes.{inked, paint_reply}
 use Rattle.qws_base.specs.declared.replies.PaintReply.{PaintReply}
 use Rattle.qws_base.specs.declared.replies.PaintReply.TheVariants.{Painted, Gone}
-use Rattle.region_table.specs.Layouts.{is_client, layout_of_table}
+use Rattle.region_table.specs.Layouts.{is_owner, layout_of_table}
 use Rattle.region_table.specs.Tables.{row_of, owner_from}
 use Rattle.region_table.proofs.Reading.{row_of_from}
-use Rattle.fb_words.specs.declared.known.Item.{Item}
+use Rattle.turn_logs.specs.declared.items.Item.{Item}
 use Rattle.qws_base.specs.Books.{BookView}
 use Rattle.std.proofs.Common.{◌≡◌, ℕ, suc, ◌+◌, ◌-◌, ◌%◌, ◌^◌, ◌<◌, ◌≤◌, ◌==◌, nat_lt, ◌/◌, append-nil, zero-le, if◌then◌else◌, Bool, true, false, List, [], ◌∷◌, ◌++◌, length, get_or, set, slice_index, eq-eqb, ne_eqb, sym, refl, ap, ◌∙◌, subst, arith, Option, Some, None, zero}
+use Rattle.std.specs.List.{flat_map}
 use Rattle.std.proofs.lemmas.List.{set-get_or}
 use Rattle.std.proofs.lemmas.Bool.{false≢true}
 use Rattle.std.proofs.lemmas.Bool.Decides.{nat_tests}
@@ -24,7 +26,7 @@ use Rattle.atomic_table.proofs.Lists.{at_last, at_longer}
 use Rattle.qws_base.specs.Sides.{Sides}
 use Rattle.qws_base.specs.declared.journals.BookEntry.{BookEntry}
 use Rattle.qws_base.specs.Scenes.{Setting}
-use Rattle.region_table.specs.Numbers.{row_word, IsTableWord}
+use Rattle.region_table.specs.Numbers.{row_word, IsTableWord, revision_of_slot}
 use Rattle.fb_words.specs.declared.known.Looked.{Looked}
 use Rattle.fb_words.specs.declared.known.KeptClip.{KeptClip}
 use Rattle.fb_words.specs.declared.known.PaintCall.{PaintCall}
@@ -34,14 +36,16 @@ use Rattle.fb_words.specs.declared.known.Mode.TheVariants.{Idle, Refused, Readin
 use Rattle.fb_words.specs.declared.known.Client.{Client}
 use Rattle.fb_words.specs.declared.known.Server.{Server}
 use Rattle.fb_words.specs.declared.known.View.{View}
-use Rattle.fb_words.specs.Tables.{revision_of_slot, revision_in, count_in, IsTable, table_of}
+use Rattle.turn_logs.specs.Tables.{revision_in, count_in, IsTable, table_of}
 use Rattle.fb_words.specs.Clips.{look_of, looked_in, row_seen, with_row, kept, IsClip, LooksTrue, Sees, stamp_in, slot_in, log_in}
-use Rattle.fb_words.specs.Views.{total, busy, reading, busy_mode, reading_mode, is_writing, steps_in, books_in, book_entry, alone}
-use Rattle.fb_words.specs.Rule.{World, TablesOk, IsStamp, IsSlot, LooksOk, Fits, Holds, PaintOk, CallOk}
+use Rattle.fb_words.specs.Views.{busy, reading, busy_mode, reading_mode, is_writing, steps_in, books_in, book_entry, alone}
+use Rattle.fb_words.specs.Rule.{Parts, TablesOk, IsStamp, IsSlot, LooksOk, Fits, Holds, PaintOk, CallOk}
 use Rattle.fb_words.specs.Steps.{or_first, looked_mode, after_look, looked_at, after_leave, left}
 use Rattle.fb_words.proofs.Places.{each_of}
-use Rattle.fb_words.proofs.Totals.{total_one}
-use Rattle.fb_words.proofs.Rows.{look_true, spelt_from, seen_row, kept_is, same_some, none_some, table_below}
+use Rattle.turn_logs.proofs.Totals.{total_one}
+use Rattle.fb_words.proofs.Rows.{look_true, spelt_from, seen_row, kept_is}
+use Rattle.turn_logs.proofs.Options.{same_some, none_some}
+use Rattle.region_table.proofs.Words.{table_below}
 use Rattle.fb_words.proofs.Spreads.{client_steps}
 use Rattle.fb_words.proofs.Gate.{SameWords, gate_set, gate_now, same_calls, fits_client, part_of, IsAlone}
 use Rattle.fb_words.proofs.Serving.{order_more, steps_more, books_more}
@@ -57,18 +61,18 @@ not_writing : (b : Bool) (n k : ℕ) → (b ≡ true → n ≡ 0) → k ≤ n �
 not_writing true n k none_reads le one = absurd (let z = none_reads refl in omega arith)
 not_writing false n k none_reads le one = refl
 
-pub no_turn : (key : Setting) (words : List ℕ) (w : World) (p : Client) → Fits key words w → get_elem? w.clients p.number ≡ some p → reading p ≡ 1 → is_writing w.server.mode ≡ false
+pub no_turn : (key : Setting) (words : List ℕ) (w : Parts) (p : Client) → Fits key words w → get_elem? w.clients p.number ≡ some p → reading p ≡ 1 → is_writing w.server.mode ≡ false
 no_turn key words w p f at reads = not_writing (is_writing w.server.mode) (total reading w.clients) (reading p) f.apart (total_one reading w.clients p.number p at) reads
 
 -- then the present table is the last closed one
-pub present_table : (key : Setting) (words : List ℕ) (w : World) → Fits key words w → is_writing w.server.mode ≡ false → IsTable key.size (length w.server.limits) (length w.server.closed) w.server.present
-present_table key words w f idle = f.tables.well (length w.server.closed) w.server.present (f.tables.last idle)
+pub present_table : (key : Setting) (words : List ℕ) (w : Parts) → Fits key words w → is_writing w.server.mode ≡ false → IsTable key.size (length w.server.limits) (length w.server.closed) w.server.present
+present_table key words w f idle = f.closed.well (length w.server.closed) w.server.present (f.tables.last idle)
 
 -- looked words are those of the present table
-pub looks_present : (size : Sides) (words : List ℕ) (s : Server) (m : Mode) → TablesOk size words s → LooksOk words (length s.closed) m → LooksOk s.present (length s.closed) m
-looks_present size words s Idle ok l = tt
-looks_present size words s Refused ok l = tt
-looks_present size words s (Reading stamp slot looked log) ok l = ((λ k x e. let t = l.0 k x e in (t.0, sym (ok.shown x.word t.0) ∙ t.1)), l.1, l.2)
+pub looks_present : (words : List ℕ) (s : Server) (m : Mode) → TablesOk words s → LooksOk words (length s.closed) m → LooksOk s.present (length s.closed) m
+looks_present words s Idle ok l = tt
+looks_present words s Refused ok l = tt
+looks_present words s (Reading stamp slot looked log) ok l = ((λ k x e. let t = l.0 k x e in (t.0, sym (ok.shown x.word t.0) ∙ t.1)), l.1, l.2)
 
 pub looks_in : (t : List ℕ) (closed : ℕ) (m : Mode) → LooksOk t closed m → LooksTrue t (looked_in m)
 looks_in t closed Idle l = λ k x e. absurd (some-ne-none x (sym e))
@@ -122,7 +126,7 @@ looks key slots id me i is reads t = let p = part_of me in let Q : Mine → Type
     let stamp : i ≡ 1 → n ≡ length s.closed = (λ one. f.tables.shown i t ∙ ap (λ k. get_or s.present k 0) one ∙ table.stamp_is) in
     let looked = looked_ok words (length s.closed) i p.mode t stamp ok in let b = same_busy p.mode i n in
     let set_ok : LooksOk (set words i n) (length s.closed) q.mode = subst (λ x. LooksOk x (length s.closed) q.mode) (sym (set-get_or words i 0)) looked in
-    let seat = f.seats p.number p at in let many = f.as_many in let few = f.few in let order = f.order p.number p at in let seen = order.seen_within in let stamped = table.stamp_is in (
+    let seat = f.seats p.number p at in let many = f.as_many in let few = f.few in let order = f.closed.order p.number p at in let seen = order.seen_within in let stamped = table.stamp_is in (
       q,
       refl,
       fits_client key words (set words i n) w p q f at (look_set words i)
@@ -135,7 +139,7 @@ looks key slots id me i is reads t = let p = part_of me in let Q : Mine → Type
           admitted = length s.limits;
           few = omega arith;
           is_table = subst (λ x. IsTable x.size (length s.limits) (get_or s.present 1 0) s.present) (sym seat.setting_is) (subst (λ k. IsTable key.size (length s.limits) k s.present) (sym stamped) table);
-          looks = looks_in s.present (length s.closed) q.mode (looks_present key.size words s q.mode f.tables looked);
+          looks = looks_in s.present (length s.closed) q.mode (looks_present words s q.mode f.tables looked);
           seen = omega arith;
           clips = λ k clip e. subst (λ x. IsClip x.size s.present p.number clip) (sym seat.setting_is) (f.clips p.number p at k clip s.present e (f.tables.last idle));
         },
@@ -157,7 +161,7 @@ last_look Idle i n reads = absurd (omega arith)
 last_look Refused i n reads = absurd (omega arith)
 last_look (Reading stamp slot looked log) i n reads = (length looked, at_last looked record { word = i; value = n } (length looked) refl)
 
-earlier : (t : List ℕ) (m : Mode) (i n : ℕ) → LooksTrue t (looked_in (looked_mode i n m)) → LooksTrue t (looked_in m)
+pub earlier : (t : List ℕ) (m : Mode) (i n : ℕ) → LooksTrue t (looked_in (looked_mode i n m)) → LooksTrue t (looked_in m)
 earlier t Idle i n ok = ok
 earlier t Refused i n ok = ok
 earlier t (Reading stamp slot looked log) i n ok = λ k l e. ok k l (at_longer looked (record { word = i; value = n } ∷ []) k l e)
@@ -204,7 +208,7 @@ reads_busy Idle e = absurd (omega arith)
 reads_busy Refused e = absurd (omega arith)
 reads_busy (Reading stamp slot looked log) e = refl
 
-left_clips : (key : Setting) (words : List ℕ) (w : World) (p : Client) → Fits key words w → get_elem? w.clients p.number ≡ some p → is_writing w.server.mode ≡ false
+left_clips : (key : Setting) (words : List ℕ) (w : Parts) (p : Client) → Fits key words w → get_elem? w.clients p.number ≡ some p → is_writing w.server.mode ≡ false
     → (k : ℕ) (clip : KeptClip) (t : List ℕ) → get_elem? (with_row (row_seen p.number p.mode) p.clips) k ≡ some clip → get_elem? w.server.tables (length w.server.closed) ≡ some t → IsClip key.size t p.number clip
 left_clips key words w p f at idle k clip t at_k at_t = go (row_seen p.number p.mode) refl k at_k
   where
@@ -214,7 +218,7 @@ left_clips key words w p f at idle k clip t at_k at_t = go (row_seen p.number p.
     go : (o : Option KeptClip) → row_seen p.number p.mode ≡ o → (k : ℕ) → get_elem? (with_row o p.clips) k ≡ some clip → IsClip key.size t p.number clip
     go None is k e = f.clips p.number p at k clip t e at_t
     go (Some c) is zero e = let row = seen_row key.size (length w.server.limits) (length w.server.closed) p.number w.server.present p.mode c (present_table key words w f idle)
-        (looks_present key.size words w.server p.mode f.tables (f.looks p.number p at)) is in
+        (looks_present words w.server p.mode f.tables (f.looks p.number p at)) is in
         subst (λ x. IsClip key.size t p.number x) (some-injective c clip e) (subst (λ x. IsClip key.size x p.number c) now row.0)
     go (Some c) is (suc k) e = f.clips p.number p at k clip t e at_t
 
@@ -227,21 +231,21 @@ Leaving p t = (stamp_in p.mode ≡ Some t.stamp) × ((k : ℕ) (i : Item) → ge
 nothing_done : (size : Sides) (t : List ℕ) (c s : ℕ) (sheet : Sheet) (reply : PaintReply) (log : List Item) → LogIn size t c s log → reply ≡ paint_reply size (layout_of_table size (table_of t)) c s sheet → reply ≡ Gone → log ≡ []
 nothing_done size t c s sheet reply [] rights answer gone = refl
 nothing_done size t c s sheet reply (i ∷ log) rights answer gone = let g = rights 0 i refl in
-    let mine : is_client c (row_of (table_of t) s).owner ≡ true = ap (λ r. is_client c r.owner) (row_of_from (slice_index t) s g.slot_in) ∙ ap (λ n. is_client c (owner_from n)) g.owner ∙ own c in
+    let mine : is_owner c (row_of (table_of t) s).owner ≡ true = ap (λ r. is_owner c r.owner) (row_of_from (slice_index t) s g.slot_in) ∙ ap (λ n. is_owner c (owner_from n)) g.owner ∙ own c in
     absurd (painted_apart (length (inked size (layout_of_table size (table_of t)) s sheet)) (sym (ap (λ b. if b then Painted (length (inked size (layout_of_table size (table_of t)) s sheet)) else Gone) mine) ∙ sym answer ∙ gone))
   where
-    own : (c : ℕ) → is_client c (owner_from (c + 1)) ≡ true
-    own c = ap (λ b. is_client c (if b then None else Some (c + 1 - 1))) (ne_eqb (c + 1) 0 (λ e. absurd (omega arith))) ∙ eq-eqb (c + 1 - 1) c (omega arith)
+    own : (c : ℕ) → is_owner c (owner_from (c + 1)) ≡ true
+    own c = ap (λ b. is_owner c (if b then None else Some (c + 1 - 1))) (ne_eqb (c + 1) 0 (λ e. absurd (omega arith))) ∙ eq-eqb (c + 1 - 1) c (omega arith)
 
     painted_apart : (n : ℕ) → Painted n ≡ Gone → ⊥
     painted_apart n e = false≢true (sym (ap is_painted e))
 
 -- the turn that is closed
-closed_paint : (key : Setting) (words : List ℕ) (w : World) (p : Client) (t : PaintCall) → Fits key words w → get_elem? w.clients p.number ≡ some p → is_writing w.server.mode ≡ false → Leaving p t
+closed_paint : (key : Setting) (words : List ℕ) (w : Parts) (p : Client) (t : PaintCall) → Fits key words w → get_elem? w.clients p.number ≡ some p → is_writing w.server.mode ≡ false → Leaving p t
     → (u : List ℕ) → get_elem? w.server.tables t.stamp ≡ some u → PaintOk key u p.number t
 closed_paint key words w p t f at idle asks u at_u =
     let s = w.server in let table = present_table key words w f idle in let seat = f.seats p.number p at in let many = f.as_many in let few = f.few in
-    let order = f.order p.number p at in let seen = order.seen_within in let stamped = table.stamp_is in
+    let order = f.closed.order p.number p at in let seen = order.seen_within in let stamped = table.stamp_is in
     let now : t.stamp ≡ length s.closed = stamp_now words (length s.closed) p.mode t.stamp (f.looks p.number p at) asks.0 in
     let is : s.present ≡ u = some-injective s.present u (sym (f.tables.last idle) ∙ ap (get_elem? s.tables) (sym now) ∙ at_u) in
     let v : Sees p = record {
@@ -249,7 +253,7 @@ closed_paint key words w p t f at idle asks u at_u =
       admitted = length s.limits;
       few = omega arith;
       is_table = subst (λ x. IsTable x.size (length s.limits) (get_or s.present 1 0) s.present) (sym seat.setting_is) (subst (λ k. IsTable key.size (length s.limits) k s.present) (sym stamped) table);
-      looks = looks_in s.present (length s.closed) p.mode (looks_present key.size words s p.mode f.tables (f.looks p.number p at));
+      looks = looks_in s.present (length s.closed) p.mode (looks_present words s p.mode f.tables (f.looks p.number p at));
       seen = omega arith;
       clips = λ k clip e. subst (λ x. IsClip x.size s.present p.number clip) (sym seat.setting_is) (f.clips p.number p at k clip s.present e (f.tables.last idle));
     } in
@@ -266,8 +270,8 @@ closed_paint key words w p t f at idle asks u at_u =
     }
 
 left_items : (p : Client) (t : PaintCall) (e : ℕ) → stamp_in p.mode ≡ Some t.stamp → t.log ≡ log_in p.mode → client_items e (after_leave p t) ≡ client_items e p
-left_items p t e stamped log = append-nil (joined (call_items e) (p.own ++ Paint t ∷ [])) ∙ joined-append (call_items e) p.own (Paint t ∷ [])
-    ∙ ap (λ l. joined (call_items e) p.own ++ l) (append-nil (if t.stamp == e then t.log else []) ∙ ap (λ l. if t.stamp == e then l else []) log ∙ sym (open_as p.mode t.stamp e stamped))
+left_items p t e stamped log = append-nil (flat_map (call_items e) (p.own ++ Paint t ∷ [])) ∙ joined-append (call_items e) p.own (Paint t ∷ [])
+    ∙ ap (λ l. flat_map (call_items e) p.own ++ l) (append-nil (if t.stamp == e then t.log else []) ∙ ap (λ l. if t.stamp == e then l else []) log ∙ sym (open_as p.mode t.stamp e stamped))
 
 pub leaves : (key : Setting) (slots id : ℕ) (me : Mine) (t : PaintCall) → IsAlone me → Leaving (part_of me) t → Allows (Holds key) slots id me 0 (λ n. (n + (2 ^ 64 - 1)) % 2 ^ 64) (left t (step slots 0 1 0 none) me)
 leaves key slots id me t is asks = let P : Mine → Type 0 = λ m. Allows (Holds key) slots id m 0 (λ n. (n + (2 ^ 64 - 1)) % 2 ^ 64) (left t (step slots 0 1 0 none) m) in let p = part_of me in
@@ -275,7 +279,7 @@ leaves key slots id me t is asks = let P : Mine → Type 0 = λ m. Allows (Holds
     (λ words w f at small. let n : ℕ = get_or words 0 0 in let fits : n < 18446744073709551616 = small in let g = f.gate in let s = w.server in let q = after_leave p t in
     let reads = stamped_reads p.mode t.stamp asks.0 in let is_busy : busy p ≡ 1 = reads_busy p.mode reads in let one = total_one busy w.clients p.number p at in
     let less : (n + 18446744073709551615) % 18446744073709551616 ≡ n - 1 = omega arith in
-    let idle = no_turn key words w p f at reads in let order = f.order p.number p at in let seen = order.seen_within in
+    let idle = no_turn key words w p f at reads in let order = f.closed.order p.number p at in let seen = order.seen_within in
     let now : t.stamp ≡ length s.closed = stamp_now words (length s.closed) p.mode t.stamp (f.looks p.number p at) asks.0 in (
       q,
       refl,
@@ -290,7 +294,7 @@ leaves key slots id me t is asks = let P : Mine → Type 0 = λ m. Allows (Holds
             clips = left_clips key words w p f at idle;
             looks = tt;
             rights = tt;
-            paints = each_of (λ k a. CallOk key s.tables p.number a) p.own (Paint t) (f.paints p.number p at) (closed_paint key words w p t f at idle asks);
+            paints = each_of (λ k a. CallOk key s.tables p.number a) p.own (Paint t) (f.closed.paints p.number p at) (closed_paint key words w p t f at idle asks);
             items = λ e. left_items p t e asks.0 asks.2;
           }),
       refl,

@@ -2,27 +2,28 @@
 use Rattle.qws_base.specs.declared.colours.Depth.TheVariants.{Full, Narrow}
 use Rattle.qws_base.specs.declared.colours.Depth.{Depth}
 use Rattle.fb_words.specs.Segments.{first_value}
-use Rattle.std.proofs.lemmas.Int.{ints}
-use Rattle.fb_words.proofs.Rows.{table_below}
-use Rattle.region_table.specs.Tables.{origin_from}
+use Rattle.region_table.proofs.Words.{table_below}
+use Rattle.turn_logs.proofs.FirstTable.{table_at, long_table, length-opening, at_opening, first_table}
 use Rattle.region_table.specs.Opening.{opening_row_word, opening_word}
-use Rattle.std.proofs.Common.{◌≡◌, ℕ, zero, suc, nat_lt, ◌%◌, true, false, inr, if◌then◌else◌, ◌+◌, ◌-◌, ◌*◌, ◌<◌, ◌++◌, List, get_or, replicate, length, take, length-append, ap, ◌∙◌, [], ◌∷◌, refl, sym, subst, arith, ⊎_elim, ◌≤◌, Bool}
+use Rattle.std.proofs.Common.{◌≡◌, ℕ, zero, suc, nat_lt, ◌%◌, true, false, if◌then◌else◌, ◌+◌, ◌-◌, ◌*◌, ◌<◌, ◌++◌, List, get_or, replicate, length, take, length-append, ap, ◌∙◌, [], ◌∷◌, refl, sym, subst, arith, ⊎_elim, ◌≤◌, Bool}
 use Rattle.std.proofs.lemmas.Bool.Decides.{nat_tests}
 use Rattle.std.proofs.lemmas.Bool.{false≢true}
 use Rattle.std.proofs.lemmas.List.{length-replicate, take_all, get_or-append_right, get_or-replicate}
-use Rattle.std.proofs.lemmas.List.FromFn.{length-map-range_with_len, get_or-map-range_with_len, map-range_with_len_more}
+use Rattle.std.proofs.lemmas.List.FromFn.{map-range_with_len_more}
 use Rattle.std.proofs.Math.ListN.{get_or-append}
 use mathlib.Core.Option.{some, some-injective, some-ne-none}
 use lib.ListN.{get_elem?}
 use Rattle.atomic_table.specs.Table.{Me, opening}
 use Rattle.atomic_table.specs.Seated.{TableId}
-use Rattle.qws_base.specs.Sides.{Sides, IsScreen}
+use Rattle.qws_base.specs.Sides.{IsScreen}
 use Rattle.qws_base.specs.Colours.{IsSceneColour}
-use Rattle.qws_base.specs.Points.{pixel_count, IsPlaced}
+use Rattle.qws_base.specs.Points.{pixel_count}
 use Rattle.qws_base.specs.Scenes.{Setting}
 use Rattle.fb_words.specs.declared.known.View.{View}
-use Rattle.fb_words.specs.Tables.{first_pixel, opening_words, opening_table, IsTable, IsLineWord}
-use Rattle.fb_words.specs.Views.{HeadView, total, the_server, opening_server}
+use Rattle.turn_logs.specs.Tables.{opening_words, opening_table, IsTable}
+use Rattle.region_table.specs.Numbers.{first_pixel, IsLineWord}
+use Rattle.fb_words.specs.Views.{HeadView, the_server, opening_server}
+use Rattle.turn_logs.specs.Lists.{total}
 use Rattle.fb_words.specs.Rule.{clients_in, IsServer, Holds, opening_view}
 
 module _ (key : Setting) where
@@ -33,13 +34,6 @@ module _ (key : Setting) where
   no_one : (c : ℕ) → total (clients_in c) (opening_view key ∷ []) ≡ (if nat_lt c 0 then 1 else 0)
   no_one c = grind (arith, nat_tests)
 
--- the first words are n; n is kept a variable, since so long a list must not be computed
-pub table_at : (n i : ℕ) → i < n → get_or (opening_words n) i 0 ≡ opening_word i
-table_at n i lt = get_or-map-range_with_len opening_word 0 n i i 0 lt (omega arith)
-
-pub long_table : (n : ℕ) → length (opening_words n) ≡ n
-long_table n = length-map-range_with_len opening_word 0 n
-
 abbrev words_of : ℕ → Setting → List ℕ
 words_of n key = opening_words n ++ replicate (pixel_count key.size) key.backdrop
 
@@ -48,44 +42,6 @@ long_words n key = length-append (opening_words n) (replicate (pixel_count key.s
 
 at_table : (n : ℕ) (key : Setting) (i : ℕ) → i < n → get_or (words_of n key) i 0 ≡ opening_word i
 at_table n key i lt = get_or-append (opening_words n) (replicate (pixel_count key.size) key.backdrop) 0 i (rw (long_table n) lt) ∙ table_at n i lt
-
--- the opening table, of which only its length and its words are used
-
-pub length-opening : length opening_table ≡ first_pixel
-unfolding opening_table
-length-opening = long_table first_pixel
-
-pub at_opening : (i : ℕ) → i < first_pixel → get_or opening_table i 0 ≡ opening_word i
-unfolding opening_table
-at_opening i lt = table_at first_pixel i lt
-
-pub at_row : (s k : ℕ) → s < 33 → k < 260 → get_or opening_table (2052 + 260 * s + k) 0 ≡ opening_row_word k
-at_row s k few low = let i : ℕ = 2052 + 260 * s + k in let far : nat_lt i 2052 ≡ false = grind (arith, nat_tests) in let place : (i - 2052) % 260 ≡ k = omega arith in
-    at_opening i (omega arith) ∙ ap (λ b. if b then 0 else opening_row_word ((i - 2052) % 260)) far ∙ ap opening_row_word place
-
-pub first_table : (size : Sides) → IsScreen size → IsTable size 0 0 opening_table
-first_table size screen = record {
-  stamp_is = at_opening 1 (omega arith);
-  revisions = λ s lt. let r = at_row s 1 lt (omega arith) in omega arith;
-  few = λ s lt. let r = at_row s 3 lt (omega arith) in omega arith;
-  inside = λ s j lt at. let r = at_row s 3 lt (omega arith) in absurd (omega arith);
-  apart = λ s r j k p lt _ _ h _. let e = at_row s 3 lt (omega arith) in let z = h.0 in absurd (omega arith);
-  owners = λ s lt. let r = at_row s 0 lt (omega arith) in let q : 2052 + 260 * s + 0 ≡ 2052 + 260 * s = omega arith in (let z = ap (λ i. get_or opening_table i 0) (sym q) ∙ r in omega arith);
-  unowned = λ s lt _. at_row s 3 lt (omega arith);
-  origins = λ s lt. subst (λ w. IsPlaced (origin_from w)) (sym (at_row s 2 lt (omega arith))) placed;
-  cursor = let two = at_opening 2 (omega arith) in let three = at_opening 3 (omega arith) in let w = screen.some_w in let h = screen.some_h in record {
-    in_columns = omega arith;
-    in_rows = omega arith;
-    shown = omega arith;
-    sides = inr ((omega arith), (omega arith));
-    few_columns = omega arith;
-    few_rows = omega arith;
-    cells = λ i lo hi. let far : nat_lt i 2052 ≡ true = grind (arith, nat_tests) in let v = at_opening i (omega arith) ∙ ap (λ b. if b then 0 else opening_row_word ((i - 2052) % 260)) far in omega arith;
-  };
-}
-  where
-    placed : IsPlaced (origin_from 2147516416)
-    placed = record { low_x = omega (arith, ints); high_x = omega (arith, ints); low_y = omega (arith, ints); high_y = omega (arith, ints) }
 
 only_table : (e : ℕ) (t : List ℕ) → get_elem? (opening_table ∷ []) e ≡ some t → (e ≡ 0) × (opening_table ≡ t)
 only_table zero t at = (refl, some-injective opening_table t at)
@@ -114,7 +70,7 @@ first_colour key x colour = go (nat_lt x 10632)
 
 opens_at : (n : ℕ) (key : Setting) → n ≡ first_pixel → 0 < n → IsScreen key.size → IsSceneColour key.depth key.backdrop → Holds key (opening (words_of n key) [] (opening_view key))
 opens_at n key is positive screen colour = record {
-  world = record { server = opening_server key; clients = [] };
+  parts = record { server = opening_server key; clients = [] };
   spread = record {
     one_server = refl;
     one_client = λ c. no_one key c;
@@ -128,23 +84,25 @@ opens_at n key is positive screen colour = record {
     as_many = refl;
     few = omega arith;
     seats = λ c p e. absurd (some-ne-none p (sym e));
-    order = λ c p e. absurd (some-ne-none p (sym e));
-    own_steps = λ c p e. absurd (some-ne-none p (sym e));
-    named = λ k t e. absurd (some-ne-none t (sym e));
+    closed = record {
+      long = refl;
+      first = refl;
+      well = λ e t at. let o = only_table e t at in subst (IsTable key.size 0 e) o.1 (subst (λ k. IsTable key.size 0 k opening_table) (sym o.0) (first_table key.size screen));
+      next = λ e t u at_t at_u. absurd (let o = only_table (e + 1) u at_u in let z = o.0 in omega arith);
+      order = λ c p e. absurd (some-ne-none p (sym e));
+      own_steps = λ c p e. absurd (some-ne-none p (sym e));
+      named = λ k t e. absurd (some-ne-none t (sym e));
+      paints = λ c p e. absurd (some-ne-none p (sym e));
+      steps = λ e turn t u at_turn. absurd (some-ne-none turn (sym at_turn));
+    };
     tables = record {
       wide = length-opening;
       shown = λ i t. let lt = table_below i t in at_table n key i (rw is lt) ∙ sym (at_opening i lt);
-      long = refl;
-      first = refl;
       last = λ _. refl;
-      well = λ e t at. let o = only_table e t at in subst (IsTable key.size 0 e) o.1 (subst (λ k. IsTable key.size 0 k opening_table) (sym o.0) (first_table key.size screen));
-      next = λ e t u at_t at_u. absurd (let o = only_table (e + 1) u at_u in let z = o.0 in omega arith);
     };
     clips = λ c p e. absurd (some-ne-none p (sym e));
     looks = λ c p e. absurd (some-ne-none p (sym e));
     rights = λ c p e. absurd (some-ne-none p (sym e));
-    paints = λ c p e. absurd (some-ne-none p (sym e));
-    steps = λ e turn t u at_turn. absurd (some-ne-none turn (sym at_turn));
     quiet = λ _. refl;
     lines = λ x far lt. let v = first_line n key x is far (subst (λ k. x < k) (long_words n key) lt) in record { is_written = v; colour = subst (IsSceneColour key.depth) (sym v) (first_colour key x colour) };
     picks = λ x. tt;

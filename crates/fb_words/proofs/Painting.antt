@@ -1,5 +1,6 @@
 -- Lines, where an open paint turn has one item more.
 use Rattle.std.proofs.Common.{◌≡◌, ℕ, suc, ◌<◌, ◌≤◌, ◌==◌, eq-eqb, ne_eqb, ◌≢◌, if◌then◌else◌, Bool, true, false, List, [], ◌∷◌, ◌++◌, append_assoc, append-nil, map, length, set, sym, refl, ap, ◌∙◌, subst, arith, Option, Some, None}
+use Rattle.std.specs.List.{flat_map}
 use Rattle.std.proofs.lemmas.List.{length-map}
 use mathlib.Core.Option.{some, some-ne-none}
 use mathlib.Core.Logic.{dite}
@@ -7,7 +8,7 @@ use native.Mathlib.Decide.{ℕ_discrete}
 use lib.ListN.{get_elem?}
 use Rattle.qws_base.specs.Sides.{Sides}
 use Rattle.qws_base.specs.Scenes.{Setting}
-use Rattle.fb_words.specs.declared.known.Item.{Item}
+use Rattle.turn_logs.specs.declared.items.Item.{Item}
 use Rattle.fb_words.specs.declared.known.Looked.{Looked}
 use Rattle.fb_words.specs.declared.known.Call.{Call}
 use Rattle.fb_words.specs.declared.known.Call.TheVariants.{Step, Paint}
@@ -15,16 +16,18 @@ use Rattle.fb_words.specs.declared.known.Mode.{Mode}
 use Rattle.fb_words.specs.declared.known.Mode.TheVariants.{Idle, Refused, Reading}
 use Rattle.fb_words.specs.declared.known.Client.{Client}
 use Rattle.fb_words.specs.declared.known.Server.{Server}
-use Rattle.fb_words.specs.Lines.{item_word, on}
-use Rattle.fb_words.specs.Tables.{revision_of_slot, IsTable}
-use Rattle.fb_words.specs.Segments.{joined, upto, call_items, open_items, client_items, nth_log, turn_log, server_items, segment, line}
+use Rattle.turn_logs.specs.Lines.{item_word, on}
+use Rattle.turn_logs.specs.Tables.{IsTable}
+use Rattle.region_table.specs.Numbers.{revision_of_slot}
+use Rattle.turn_logs.specs.Lists.{upto}
+use Rattle.fb_words.specs.Segments.{call_items, open_items, client_items, nth_log, turn_log, server_items, segment, line}
 use Rattle.fb_words.specs.Rights.{IsGiven, LogIn}
 use Rattle.fb_words.specs.Clips.{stamp_in, slot_in, log_in}
 use Rattle.fb_words.specs.Rule.{mark, OrderOk, LooksOk, OpenRights, CallOk, PaintsOk}
 use Rattle.fb_words.specs.Steps.{or_first, looked_mode}
-use Rattle.fb_words.proofs.Joining.{on-append, on_none, on_here, on_there, joined_set_more, joined_set_same, joined_none, on_joined, upto_same, upto_more}
+use Rattle.turn_logs.proofs.Joining.{on-append, on_none, on_here, on_there, joined_set_more, joined_set_same, joined_none, on_joined, upto_same, upto_more}
 use Rattle.fb_words.proofs.Cells.{one_owner}
-use Rattle.fb_words.proofs.Rows.{none_some, same_some}
+use Rattle.turn_logs.proofs.Options.{none_some, same_some}
 
 -- ---- rights of an open turn
 
@@ -79,7 +82,7 @@ look_items size t c i n e (Reading (Some s) slot looked log) ok = refl
 
 -- a look changes no items
 pub look_client_items : (size : Sides) (t : List ℕ) (i n e : ℕ) (p : Client) → OpenRights size t p.number p.mode → client_items e record p { mode = looked_mode i n p.mode } ≡ client_items e p
-look_client_items size t i n e p ok = ap (λ l. joined (call_items e) p.own ++ l) (look_items size t p.number i n e p.mode ok)
+look_client_items size t i n e p ok = ap (λ l. flat_map (call_items e) p.own ++ l) (look_items size t p.number i n e p.mode ok)
 
 -- ---- other clients
 
@@ -89,9 +92,9 @@ log_away size admitted stamp t c d s r x log apart table mine theirs =
 
 -- Another client has no item at the present stamp on a word that the present table gives this one.
 pub others_away : (setting : Setting) (admitted closed : ℕ) (s : Server) (words : List ℕ) (c d slot x : ℕ) (r : Client) → c ≢ d → IsTable setting.size admitted closed s.present → get_elem? s.tables closed ≡ some s.present
-    → IsGiven setting.size s.present c slot x → LooksOk words closed r.mode → OpenRights setting.size s.present d r.mode → PaintsOk setting s d r → on x (client_items closed r) ≡ []
+    → IsGiven setting.size s.present c slot x → LooksOk words closed r.mode → OpenRights setting.size s.present d r.mode → PaintsOk setting s.tables d r → on x (client_items closed r) ≡ []
 others_away setting admitted closed s words c d slot x r apart table last mine looks rights paints =
-    on-append x (joined (call_items closed) r.own) (open_items closed r.mode)
+    on-append x (flat_map (call_items closed) r.own) (open_items closed r.mode)
     ∙ ap (λ z. z ++ on x (open_items closed r.mode)) (on_joined x (call_items closed) r.own ∙ joined_none (λ a. on x (call_items closed a)) r.own (λ k a at. call_away a (paints k a at)))
     ∙ open_away r.mode looks rights
   where
@@ -117,7 +120,7 @@ others_away setting admitted closed s words c d slot x r apart table last mine l
 -- no client has an item at a number past the present one
 pub late_none : (words : List ℕ) (closed x n : ℕ) (r : Client) → closed < n → OrderOk closed r → LooksOk words closed r.mode → on x (client_items n r) ≡ []
 late_none words closed x n r late order looks =
-    on-append x (joined (call_items n) r.own) (open_items n r.mode)
+    on-append x (flat_map (call_items n) r.own) (open_items n r.mode)
     ∙ ap (λ z. z ++ on x (open_items n r.mode)) (on_joined x (call_items n) r.own ∙ joined_none (λ a. on x (call_items n a)) r.own (λ k a at. call_late a (order.seen_own k a at)))
     ∙ open_late r.mode looks
   where
@@ -144,7 +147,7 @@ module _ (p : Client) (E S : ℕ) (looked : List Looked) (log : List Item) (i : 
   grown = record p { mode = after }
 
   gains_here : (x : ℕ) → p.mode ≡ before → item_word i ≡ x → on x (client_items E grown) ≡ on x (client_items E p) ++ i ∷ []
-  gains_here x is same = let l = joined (call_items E) p.own in
+  gains_here x is same = let l = flat_map (call_items E) p.own in
       ap (λ b. on x (l ++ (if b then log ++ i ∷ [] else []))) (eq-eqb E E refl)
       ∙ ap (on x) (sym (append_assoc l log (i ∷ [])))
       ∙ on-append x (l ++ log) (i ∷ [])
@@ -152,7 +155,7 @@ module _ (p : Client) (E S : ℕ) (looked : List Looked) (log : List Item) (i : 
       ∙ ap (λ z. z ++ i ∷ []) (ap (λ b. on x (l ++ (if b then log else []))) (sym (eq-eqb E E refl)) ∙ ap (λ m. on x (l ++ open_items E m)) (sym is))
 
   gains_there : (x e : ℕ) → p.mode ≡ before → (e ≡ E → item_word i ≢ x) → on x (client_items e grown) ≡ on x (client_items e p)
-  gains_there x e is away = let l = joined (call_items e) p.own in dite (ℕ_discrete E e)
+  gains_there x e is away = let l = flat_map (call_items e) p.own in dite (ℕ_discrete E e)
       (λ eq. let apart : item_word i ≢ x = away (sym eq) in
       ap (λ b. on x (l ++ (if b then log ++ i ∷ [] else []))) (eq-eqb E e eq)
       ∙ ap (on x) (sym (append_assoc l log (i ∷ [])))
@@ -187,7 +190,7 @@ module _ (x : ℕ) (s : Server) (cs : List Client) (p : Client) (S : ℕ) (looke
       let early : upto (segment x s cs') E ≡ upto (segment x s cs) E ++ i ∷ [] = upto_more (segment x s cs') (segment x s cs) (i ∷ []) E
       (λ e lt. ap (λ z. on x (server_items s e) ++ z) (joined_set_same (λ r. on x (client_items e r)) cs p.number p q at (gains_there p E S looked log i x e is (λ eq. absurd (omega arith)))))
       (ap (λ z. on x (server_items s E) ++ z) (joined_set_more (λ r. on x (client_items E r)) (i ∷ []) cs p.number p q at (gains_here p E S looked log i x is same)
-      (λ c r lt e. others c r e (λ eq. absurd (omega arith)))) ∙ sym (append_assoc (on x (server_items s E)) (joined (λ r. on x (client_items E r)) cs) (i ∷ []))) in
+      (λ c r lt e. others c r e (λ eq. absurd (omega arith)))) ∙ sym (append_assoc (on x (server_items s E)) (flat_map (λ r. on x (client_items E r)) cs) (i ∷ []))) in
       let last_new : segment x s cs' (suc E) ≡ [] = ap (λ z. on x (server_items s (suc E)) ++ z) (joined_set_same (λ r. on x (client_items (suc E) r)) cs p.number p q at (gains_there p E S looked log i x (suc E) is (λ eq. absurd (omega arith)))) ∙ tail_none in
       ap (λ z. upto (segment x s cs') E ++ z) last_new ∙ append-nil (upto (segment x s cs') E) ∙ early ∙ ap (λ z. z ++ i ∷ []) (sym (append-nil (upto (segment x s cs) E)) ∙ ap (λ z. upto (segment x s cs) E ++ z) (sym tail_none))
     where

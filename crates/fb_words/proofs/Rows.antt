@@ -1,5 +1,5 @@
 -- What looked words say of a table, and rows that are kept.
-use Rattle.std.proofs.Common.{◌≡◌, ℕ, zero, suc, ◌+◌, ◌<◌, ◌≤◌, ◌==◌, nat_lt, ⊎_elim, if◌then◌else◌, Bool, true, false, List, [], ◌∷◌, length, get_or, is_none, sym, refl, ap, ◌∙◌, subst, arith, Option, Some, None}
+use Rattle.std.proofs.Common.{◌≡◌, ℕ, zero, suc, ◌+◌, ◌<◌, ◌≤◌, ◌==◌, ⊎_elim, if◌then◌else◌, Bool, true, false, List, [], ◌∷◌, length, get_or, sym, refl, ap, ◌∙◌, subst, arith, Option, Some, None}
 use Rattle.std.proofs.lemmas.Bool.{false≢true}
 use Rattle.std.proofs.lemmas.Bool.Decides.{nat_tests}
 use mathlib.Core.Option.{some, some-injective, some-ne-none}
@@ -12,64 +12,11 @@ use Rattle.fb_words.specs.declared.known.KeptClip.{KeptClip}
 use Rattle.fb_words.specs.declared.known.Mode.{Mode}
 use Rattle.fb_words.specs.declared.known.Mode.TheVariants.{Idle, Refused, Reading}
 use Rattle.fb_words.specs.declared.known.Client.{Client}
-use Rattle.fb_words.specs.Tables.{is_table_word, IsLineWord, revision_in, count_in, rect_in, RectHas, IsOnScreen, IsTable, SameRow, Follows}
-use Rattle.fb_words.specs.Clips.{look_of, with_first, looks_of, rects_of, clip_of, is_value, spelled, row_seen, stored, if_slot, kept, IsClip, LooksTrue}
+use Rattle.turn_logs.specs.Tables.{revision_in, count_in, rect_in, RectHas, IsOnScreen, IsTable, SameRow, Follows}
+use Rattle.fb_words.specs.Clips.{look_of, with_first, looks_of, rects_of, clip_of, is_value, spelled, IsLookedRow, row_seen, stored, if_slot, kept, IsClip, LooksTrue}
 use Rattle.fb_words.specs.Rule.{LooksOk}
-use Rattle.fb_words.proofs.Spreads.{place_within}
-
--- ---- words
-
-pub table_is : (i : ℕ) → IsTableWord i → is_table_word i ≡ true
-table_is i t = ⊎_elim (λ (a : (1 ≤ i) × (i ≤ 1027)). low i a.0 a.1) (λ (b : (2052 ≤ i) × (i ≤ 10631)). high i b.0 b.1) t
-  where
-    low : (i : ℕ) → 1 ≤ i → i ≤ 1027 → is_table_word i ≡ true
-    low i a b = let x : nat_lt i 1028 ≡ true = grind (arith, nat_tests) in let y : nat_lt 0 i ≡ true = grind (arith, nat_tests) in
-        ap (λ t. if t then nat_lt 0 i else (if nat_lt i 2052 then false else nat_lt i 10632)) x ∙ y
-
-    high : (i : ℕ) → 2052 ≤ i → i ≤ 10631 → is_table_word i ≡ true
-    high i a b = let x : nat_lt i 1028 ≡ false = grind (arith, nat_tests) in let y : nat_lt i 2052 ≡ false = grind (arith, nat_tests) in let z : nat_lt i 10632 ≡ true = grind (arith, nat_tests) in
-        ap (λ t. if t then nat_lt 0 i else (if nat_lt i 2052 then false else nat_lt i 10632)) x ∙ ap (λ t. if t then false else nat_lt i 10632) y ∙ z
-
-pub line_is : (i : ℕ) → IsLineWord i → is_table_word i ≡ false
-line_is i l = ⊎_elim (λ (a : (1028 ≤ i) × (i < 2052)). low i a.0 a.1) (λ (b : 10632 ≤ i). high i b) l
-  where
-    low : (i : ℕ) → 1028 ≤ i → i < 2052 → is_table_word i ≡ false
-    low i a b = let x : nat_lt i 1028 ≡ false = grind (arith, nat_tests) in let y : nat_lt i 2052 ≡ true = grind (arith, nat_tests) in
-        ap (λ t. if t then nat_lt 0 i else (if nat_lt i 2052 then false else nat_lt i 10632)) x ∙ ap (λ t. if t then false else nat_lt i 10632) y
-
-    high : (i : ℕ) → 10632 ≤ i → is_table_word i ≡ false
-    high i a = let x : nat_lt i 1028 ≡ false = grind (arith, nat_tests) in let y : nat_lt i 2052 ≡ false = grind (arith, nat_tests) in let z : nat_lt i 10632 ≡ false = grind (arith, nat_tests) in
-        ap (λ t. if t then nat_lt 0 i else (if nat_lt i 2052 then false else nat_lt i 10632)) x ∙ ap (λ t. if t then false else nat_lt i 10632) y ∙ z
-
-pub table_positive : (i : ℕ) → IsTableWord i → 1 ≤ i
-table_positive i t = ⊎_elim (λ (a : (1 ≤ i) × (i ≤ 1027)). a.0) (λ (b : (2052 ≤ i) × (i ≤ 10631)). let z = b.0 in omega arith) t
-
-pub table_below : (i : ℕ) → IsTableWord i → i < 10632
-table_below i t = ⊎_elim (λ (a : (1 ≤ i) × (i ≤ 1027)). let z = a.1 in omega arith) (λ (b : (2052 ≤ i) × (i ≤ 10631)). let z = b.1 in omega arith) t
-
-pub line_far : (i : ℕ) → IsLineWord i → 1028 ≤ i
-line_far i t = ⊎_elim (λ (a : (1028 ≤ i) × (i < 2052)). a.0) (λ (b : 10632 ≤ i). omega arith) t
-
-pub not_both : (i j : ℕ) → IsTableWord i → IsLineWord j → i ≡ j → ⊥
-not_both i j t l e = false≢true (sym (line_is j l) ∙ ap is_table_word (sym e) ∙ table_is i t)
-
--- ---- options
-
-abbrev the : {A : Type 0} → A → Option A → A
-the d (Some x) = x
-the d None = d
-
-some_is : {A : Type 0} (x y : A) → Some x ≡ Some y → x ≡ y
-some_is x y e = ap (the x) e
-
-no_some : {A : Type 0} (x : A) → (let n : Option A = None in n) ≡ Some x → ⊥
-no_some x e = false≢true (sym (ap is_none e))
-
-pub none_some : {A : Type 0} {B : Type 0} (x : A) → (let n : Option A = None in n) ≡ Some x → B
-none_some x e = absurd (no_some x e)
-
-pub same_some : {A : Type 0} (x y : A) → Some x ≡ Some y → x ≡ y
-same_some x y e = some_is x y e
+use Rattle.turn_logs.proofs.Joining.{place_within}
+use Rattle.turn_logs.proofs.Options.{none_some, some_is}
 
 -- ---- looked words
 
@@ -99,39 +46,31 @@ looks_are looked i (suc n) vs e = go (look_of looked i) refl (looks_of looked (i
 
 -- ---- a row that is spelled
 
--- the looked words of a row
-pub record Spelt (number : ℕ) (looked : List Looked) (clip : KeptClip) : Type 0 where
-  pub owner : look_of looked (row_word clip.slot) ≡ Some (number + 1)
-  pub revision : look_of looked (row_word clip.slot + 1) ≡ Some clip.revision
-  pub origin : look_of looked (row_word clip.slot + 2) ≡ Some clip.origin
-  pub count : look_of looked (row_word clip.slot + 3) ≡ Some (length clip.rects)
-  pub rects : (j word : ℕ) → get_elem? clip.rects j ≡ some word → look_of looked (row_word clip.slot + 4 + j) ≡ Some word
-
 value_is : (v : ℕ) (o : Option ℕ) → is_value v o ≡ true → o ≡ Some v
 value_is v None e = absurd (false≢true e)
 value_is v (Some n) e = ap (λ x. Some x) (let z : n ≡ v = grind (arith, nat_tests) in z)
 
-pub spelt_from : (number s : ℕ) (looked : List Looked) (clip : KeptClip) → spelled number s looked ≡ Some clip → (clip.slot ≡ s) × Spelt number looked clip
+pub spelt_from : (number s : ℕ) (looked : List Looked) (clip : KeptClip) → spelled number s looked ≡ Some clip → (clip.slot ≡ s) × IsLookedRow number looked clip
 spelt_from number s looked clip e = owned (is_value (number + 1) (look_of looked (row_word s))) refl e
   where
     rows : (r : Option ℕ) → look_of looked (row_word s + 1) ≡ r → (g : Option ℕ) → look_of looked (row_word s + 2) ≡ g → (n : Option ℕ) → look_of looked (row_word s + 3) ≡ n
-        → (vs : Option (List ℕ)) → rects_of looked s n ≡ vs → clip_of s r g vs ≡ Some clip → look_of looked (row_word s) ≡ Some (number + 1) → (clip.slot ≡ s) × Spelt number looked clip
+        → (vs : Option (List ℕ)) → rects_of looked s n ≡ vs → clip_of s r g vs ≡ Some clip → look_of looked (row_word s) ≡ Some (number + 1) → (clip.slot ≡ s) × IsLookedRow number looked clip
     rows None r1 g g1 n n1 vs v1 e o = none_some clip e
     rows (Some r) r1 None g1 n n1 vs v1 e o = none_some clip e
     rows (Some r) r1 (Some g) g1 n n1 None v1 e o = none_some clip e
     rows (Some r) r1 (Some g) g1 None n1 (Some vs) v1 e o = none_some vs v1
     rows (Some r) r1 (Some g) g1 (Some n) n1 (Some vs) v1 e o = let made : KeptClip = record { slot = s; revision = r; origin = g; rects = vs } in let is : made ≡ clip = some_is made clip e in
         let l = looks_are looked (row_word s + 4) n vs v1 in
-        subst (λ c. (c.slot ≡ s) × Spelt number looked c) is (refl, record { owner = o; revision = r1; origin = g1; count = n1 ∙ ap (λ x. Some x) l.0; rects = l.1 })
+        subst (λ c. (c.slot ≡ s) × IsLookedRow number looked c) is (refl, record { owner = o; revision = r1; origin = g1; count = n1 ∙ ap (λ x. Some x) l.0; rects = l.1 })
 
     owned : (b : Bool) → is_value (number + 1) (look_of looked (row_word s)) ≡ b
         → (if b then clip_of s (look_of looked (row_word s + 1)) (look_of looked (row_word s + 2)) (rects_of looked s (look_of looked (row_word s + 3))) else None) ≡ Some clip
-        → (clip.slot ≡ s) × Spelt number looked clip
+        → (clip.slot ≡ s) × IsLookedRow number looked clip
     owned true is e = rows (look_of looked (row_word s + 1)) refl (look_of looked (row_word s + 2)) refl (look_of looked (row_word s + 3)) refl (rects_of looked s (look_of looked (row_word s + 3))) refl e (value_is (number + 1) (look_of looked (row_word s)) is)
     owned false is e = none_some clip e
 
 -- a row that the table's words spell is a row of the table
-pub spelt_row : (size : Sides) (admitted stamp number : ℕ) (t : List ℕ) (looked : List Looked) (clip : KeptClip) → IsTable size admitted stamp t → LooksTrue t looked → clip.slot < 33 → Spelt number looked clip
+pub spelt_row : (size : Sides) (admitted stamp number : ℕ) (t : List ℕ) (looked : List Looked) (clip : KeptClip) → IsTable size admitted stamp t → LooksTrue t looked → clip.slot < 33 → IsLookedRow number looked clip
     → IsClip size t number clip × (clip.revision ≡ revision_in t clip.slot)
 spelt_row size admitted stamp number t looked clip table ok in_range sp =
     let s = clip.slot in

@@ -1,14 +1,15 @@
 -- A step of the head on the gate keeps the words and the world in step.
 use Rattle.fb_words.proofs.Painting.{late_none, open_log_at, length_logs}
-use Rattle.fb_words.proofs.Joining.{on-append, on_here, on_there, joined_none, joined-append, upto_same, upto_more, written-append, shows-append}
-use Rattle.fb_words.specs.declared.known.Item.{Item}
-use Rattle.fb_words.specs.Segments.{joined, upto, call_items, open_items, client_items, nth_log, turn_log, server_items, segment, line, first_value, PicksOk, LineOk}
-use Rattle.fb_words.specs.Lines.{item_word, on, written, Shows}
-use Rattle.fb_words.specs.Carries.{CarriesStep}
+use Rattle.turn_logs.proofs.Joining.{on-append, on_here, on_there, joined_none, joined-append, upto_same, upto_more, written-append, shows-append, shows_split}
+use Rattle.turn_logs.specs.declared.items.Item.{Item}
+use Rattle.turn_logs.specs.Lists.{upto, total}
+use Rattle.fb_words.specs.Segments.{call_items, open_items, client_items, nth_log, turn_log, server_items, segment, line, first_value, PicksOk, LineOk}
+use Rattle.turn_logs.specs.Lines.{item_word, on, written, Shows}
+use Rattle.turn_logs.specs.Carries.{CarriesStep}
 use Rattle.qws_base.specs.Colours.{IsSceneColour}
 use Rattle.qws_base.specs.Points.{pixel_count}
 use Rattle.std.proofs.lemmas.List.FromFn.{length-range_with_len}
-use Rattle.std.specs.List.{range_with_len}
+use Rattle.std.specs.List.{flat_map, range_with_len}
 use mathlib.Core.List.{map-append}
 use Rattle.std.proofs.Common.{◌≡◌, ℕ, zero, suc, ◌+◌, ◌-◌, ◌*◌, ◌%◌, ◌^◌, ◌<◌, ◌≤◌, ◌==◌, eq-eqb, ne_eqb, if◌then◌else◌, Bool, true, false, List, [], ◌∷◌, ◌++◌, ◌≢◌, map, length, get_or, set, length-set, length-append, append-nil, bit_or, sym, refl, ap, ◌∙◌, subst, arith, ⊎_elim, ◌⊎◌, inl, inr, lt_of_not-le}
 use Rattle.std.specs.Int.{bit_at}
@@ -25,12 +26,12 @@ use Rattle.atomic_table.specs.Table.{step, keeps, Me, Allows}
 use Rattle.atomic_table.proofs.Lists.{at_map, at_last, at_longer}
 use Rattle.qws_base.specs.Sides.{Sides}
 use Rattle.qws_base.specs.Scenes.{Setting}
-use Rattle.fb_words.specs.Tables.{IsTable, Follows, first_pixel, table_of, IsLineWord}
+use Rattle.turn_logs.specs.Tables.{IsTable, Follows, table_of}
+use Rattle.region_table.specs.Numbers.{first_pixel, IsLineWord, IsTableWord}
 use Rattle.fb_words.specs.Clips.{IsClip}
 use Rattle.fb_words.specs.declared.known.KeptClip.{KeptClip}
 use Rattle.qws_base.specs.declared.journals.JournalEntry.{JournalEntry}
-use Rattle.region_table.specs.Numbers.{IsTableWord}
-use Rattle.fb_words.specs.declared.known.Item.TheVariants.{Pick, Put}
+use Rattle.turn_logs.specs.declared.items.Item.TheVariants.{Pick, Put}
 use Rattle.fb_words.specs.declared.known.Mode.{Mode}
 use Rattle.fb_words.specs.declared.known.Mode.TheVariants.{Idle, Refused, Reading}
 use Rattle.fb_words.specs.declared.known.ServerMode.{ServerMode}
@@ -41,13 +42,15 @@ use Rattle.fb_words.specs.declared.known.Client.{Client}
 use Rattle.fb_words.specs.declared.known.Closed.{Closed}
 use Rattle.fb_words.specs.declared.known.Server.{Server}
 use Rattle.fb_words.specs.declared.known.View.{View}
-use Rattle.fb_words.specs.Views.{total, is_client, busy, reading, busy_mode, reading_mode, shut, is_writing, is_closing, steps_in, books_in, head_view, the_server, both_views, client_of, without}
-use Rattle.fb_words.specs.Rule.{World, clients_in, Spread, SeatOk, OrderOk, MayFollow, mark, step_call, steps_of, TablesOk, ClipsOk, LooksOk, Fits, Holds, OpenRights, PaintOk, CallOk, PaintsOk, StepsOk, LinesOk}
+use Rattle.fb_words.specs.Views.{is_client, busy, reading, busy_mode, reading_mode, shut, is_writing, is_closing, steps_in, books_in, head_view, the_server, both_views, client_of, without}
+use Rattle.fb_words.specs.Rule.{ClosedOk, Parts, clients_in, Spread, SeatOk, OrderOk, MayFollow, mark, step_call, steps_of, TablesOk, ClipsOk, LooksOk, Fits, Holds, OpenRights, PaintOk, CallOk, PaintsOk, StepsOk, LinesOk}
 use Rattle.fb_words.specs.Steps.{after_announce, announced, after_settle, settled, after_withdraw, withdrew, was_read, wrote, after_give, closed_turn, own_step, stepped, with_step, given, IsNextTable, told, AllSit, AllHere, arranged, Knows, CarriesAtGive, IsBetweenTurns}
 use Rattle.fb_words.proofs.Places.{each_of, there}
-use Rattle.fb_words.proofs.Totals.{total_one, total_map, from_map, set_same}
-use Rattle.fb_words.proofs.Rows.{table_is, table_positive, table_below, clip_follows, line_is, line_far, not_both}
-use Rattle.fb_words.proofs.Spreads.{SitIn, server_steps, Moves, spread_set, place_within}
+use Rattle.turn_logs.proofs.Totals.{total_one, total_map, from_map, set_same}
+use Rattle.region_table.proofs.Words.{table_is, table_positive, table_below, line_is, line_far, not_both}
+use Rattle.fb_words.proofs.Rows.{clip_follows}
+use Rattle.fb_words.proofs.Spreads.{SitIn, server_steps, Moves, spread_set}
+use Rattle.turn_logs.proofs.Joining.{place_within}
 use Rattle.fb_words.proofs.Sitting.{client_of_here}
 use Rattle.fb_words.proofs.Gate.{gate_set, gate_now, gate_small, SameWords, tables_same, looks_same, looks_kept, tables_kept}
 
@@ -56,11 +59,11 @@ sits_well : (key : Setting) (words : List ℕ) (s : Server) (cs ps : List Client
 sits_well key words s cs ps f sit k p e = let at = sit k p e in let ok = f.seats p.number p at in record {
   setting = ok.setting_is ∙ sym f.setting.server;
   limit = ok.limit_is;
-  seen = (f.order p.number p at).seen_within;
-  own_steps = f.own_steps p.number p at;
-  order = f.order p.number p at;
+  seen = (f.closed.order p.number p at).seen_within;
+  own_steps = f.closed.own_steps p.number p at;
+  order = f.closed.order p.number p at;
   clips = subst (λ k. ClipsOk k.size s p.number p) (sym f.setting.server) (f.clips p.number p at);
-  paints = subst (λ k. PaintsOk k s p.number p) (sym f.setting.server) (f.paints p.number p at);
+  paints = subst (λ k. PaintsOk k s.tables p.number p) (sym f.setting.server) (f.closed.paints p.number p at);
 }
 
 -- where no item counts, the total is 0
@@ -112,15 +115,11 @@ fits_mode key words s cs m t n f idle gate apart = let same = gate_set words n i
   as_many = f.as_many;
   few = f.few;
   seats = λ c p e. let ok = f.seats c p e in record { setting_is = ok.setting_is; number_is = ok.number_is; limit_is = ok.limit_is };
-  order = f.order;
-  own_steps = f.own_steps;
-  named = f.named;
-  tables = let ok = tables_same key.size words (set words 0 n) s same f.tables in record { wide = ok.wide; shown = ok.shown; long = ok.long; first = ok.first; last = λ _. ok.last idle; well = ok.well; next = ok.next };
+  closed = f.closed;
+  tables = let ok = tables_same words (set words 0 n) s same f.tables in record { wide = ok.wide; shown = ok.shown; last = λ _. ok.last idle };
   clips = f.clips;
   looks = λ c p e. looks_same words (set words 0 n) (length s.closed) p.mode same (f.looks c p e);
   rights = f.rights;
-  paints = f.paints;
-  steps = f.steps;
   quiet = λ _. f.quiet idle;
   lines = lines_gate key words (set words 0 n) s cs same f.lines;
   picks = f.picks;
@@ -134,12 +133,12 @@ same_lists [] (y ∷ m) long each = absurd (omega arith)
 same_lists (x ∷ l) [] long each = absurd (omega arith)
 same_lists {A} (x ∷ l) (y ∷ m) long each = ap (λ (z : A). z ∷ l) (sym (some-injective y x (each 0 x refl))) ∙ ap (λ t. y ∷ t) (same_lists l m (omega arith) (λ k a e. each (suc k) a e))
 
-in_order : (n i k : ℕ) → k < n → get_elem? (range_with_len i n) k ≡ some (i + k)
+pub in_order : (n i k : ℕ) → k < n → get_elem? (range_with_len i n) k ≡ some (i + k)
 in_order zero i k lt = absurd (omega arith)
 in_order (suc n) i zero lt = ap some (let z : i ≡ i + 0 = omega arith in z)
 in_order (suc n) i (suc k) lt = in_order n (i + 1) k (omega arith) ∙ ap some (let z : i + 1 + k ≡ i + suc k = omega arith in z)
 
-sits_as : (ps : List Client) (c k : ℕ) (p : Client) → get_elem? ps k ≡ some p → p.number ≡ c → 1 ≤ total (is_client c) ps
+pub sits_as : (ps : List Client) (c k : ℕ) (p : Client) → get_elem? ps k ≡ some p → p.number ≡ c → 1 ≤ total (is_client c) ps
 sits_as ps c k p e same = let one = total_one (is_client c) ps k p e in let me : is_client c p ≡ 1 = ap (λ b. if b then 1 else 0) (eq-eqb p.number c same) in omega arith
 
 pub all_arranged : (s : Server) (cs ps : List Client) → length s.limits ≡ length cs → SitIn cs ps → AllHere s ps → cs ≡ arranged (length s.limits) ps
@@ -151,18 +150,7 @@ all_arranged s cs ps long sit here = same_lists cs (arranged (length s.limits) p
     at_map (λ c. client_of c ps) (range_with_len 0 (length s.limits)) c c (in_order (length s.limits) 0 c small ∙ ap some (let z : 0 + c ≡ c = omega arith in z)) ∙ sym at_c ∙ e)
 
 knows_of : (words : List ℕ) (s : Server) (cs : List Client) → Fits s.setting words record { server = s; clients = cs } → Knows s cs
-knows_of words s cs f = record {
-  long = f.tables.long;
-  first = f.tables.first;
-  well = f.tables.well;
-  next = f.tables.next;
-  named = f.named;
-  order = f.order;
-  own_steps = f.own_steps;
-  paints = f.paints;
-  steps = f.steps;
-  picks = f.picks;
-}
+knows_of words s cs f = (f.closed, f.picks)
 
 knows_all : (key : Setting) (words : List ℕ) (s : Server) (cs ps : List Client) → Fits key words record { server = s; clients = cs } → SitIn cs ps → AllHere s ps → Knows s (arranged (length s.limits) ps)
 knows_all key words s cs ps f sit here = subst (Knows s) (all_arranged s cs ps f.as_many sit here)
@@ -208,7 +196,7 @@ settles key slots id s ps closing idle = server_steps key slots id s ps 0 (λ n.
       empty = f.quiet idle;
       last = f.tables.last idle;
       wide = f.tables.wide;
-      is_table = subst (λ k. IsTable k.size (length s.limits) (length s.closed) s.present) (sym f.setting.server) (f.tables.well (length s.closed) s.present (f.tables.last idle));
+      is_table = subst (λ k. IsTable k.size (length s.limits) (length s.closed) s.present) (sym f.setting.server) (f.closed.well (length s.closed) s.present (f.tables.last idle));
     }
 
     go : (words : List ℕ) (cs : List Client) (f : Fits key words record { server = s; clients = cs }) (n : ℕ) → n ≡ get_or words 0 0 → (b : Bool) → (n == 4294967296) ≡ b
@@ -296,31 +284,19 @@ given_steps s e c p next number ok = let t = closed_turn s e in by_number e p (�
     (λ not. let not_c : e.client ≢ c = (λ eq. not (number ∙ sym eq)) in
     ok ∙ sym (append-nil (steps_of c 0 s.closed)) ∙ ap (λ b. steps_of c 0 s.closed ++ (if b then step_call (0 + length s.closed + 1) t ∷ [] else [])) (sym (ne_eqb e.client c not_c)) ∙ sym (steps_of_more c 0 s.closed t))
 
-given_tables : (size : Sides) (words ws : List ℕ) (s : Server) (e : JournalEntry) → SameWords words ws → IsTable size (length s.limits) (length s.closed + 1) s.present
-    → ((t : List ℕ) → get_elem? s.tables (length s.closed) ≡ some t → Follows t s.present) → TablesOk size words s → TablesOk size ws (after_give s e)
-given_tables size words ws s e same table follows ok = let n = length-append s.closed (closed_turn s e ∷ []) in let m = length-append s.tables (s.present ∷ []) in let long = ok.long in record {
+given_tables : (words ws : List ℕ) (s : Server) (e : JournalEntry) → SameWords words ws → length s.tables ≡ length s.closed + 1 → TablesOk words s → TablesOk ws (after_give s e)
+given_tables words ws s e same long ok = let n = length-append s.closed (closed_turn s e ∷ []) in record {
   wide = ok.wide;
   shown = λ i t. same.same i (table_positive i t) ∙ ok.shown i t;
-  long = omega arith;
-  first = at_longer s.tables (s.present ∷ []) 0 _ ok.first;
   last = λ _. at_last s.tables s.present (length (after_give s e).closed) (omega arith);
-  well = each_of (IsTable size (length s.limits)) s.tables s.present ok.well (subst (λ k. IsTable size (length s.limits) k s.present) (sym long) table);
-  next = λ k t u at_t at_u. each_of (λ j u. (k : ℕ) (t : List ℕ) → j ≡ k + 1 → get_elem? (s.tables ++ s.present ∷ []) k ≡ some t → Follows t u) s.tables s.present
-      (λ j u at_u k t eq at_t. each_of (λ k t. j ≡ k + 1 → Follows t u) s.tables s.present
-      (λ k t at_t eq. ok.next k t u at_t (subst (λ i. get_elem? s.tables i ≡ some u) eq at_u))
-      (λ eq. let w = place_within s.tables j u at_u in absurd (omega arith)) k t at_t eq)
-      (λ k t eq at_t. each_of (λ k t. length s.tables ≡ k + 1 → Follows t s.present) s.tables s.present
-      (λ k t at_t eq. follows t (subst (λ i. get_elem? s.tables i ≡ some t) (let z : k ≡ length s.closed = omega arith in z) at_t))
-      (λ eq. absurd (omega arith)) k t at_t eq)
-      (k + 1) u at_u k t refl at_t;
 }
 
-given_clips : (size : Sides) (words : List ℕ) (s : Server) (e : JournalEntry) (c : ℕ) (p : Client) → TablesOk size words s → ((t : List ℕ) → get_elem? s.tables (length s.closed) ≡ some t → Follows t s.present)
+given_clips : (size : Sides) (s : Server) (e : JournalEntry) (c : ℕ) (p : Client) → length s.tables ≡ length s.closed + 1 → ((t : List ℕ) → get_elem? s.tables (length s.closed) ≡ some t → Follows t s.present)
     → ClipsOk size s c p → ClipsOk size (after_give s e) c (with_step e p)
-given_clips size words s e c p ok follows clips = by_number e p (ClipsOk size (after_give s e) c) (λ _. now) (λ _. now)
+given_clips size s e c p long follows clips = by_number e p (ClipsOk size (after_give s e) c) (λ _. now) (λ _. now)
   where
     now : (k : ℕ) (clip : KeptClip) (t : List ℕ) → get_elem? p.clips k ≡ some clip → get_elem? (s.tables ++ s.present ∷ []) (length (s.closed ++ closed_turn s e ∷ [])) ≡ some t → IsClip size t c clip
-    now k clip t at at_t = let n = length-append s.closed (closed_turn s e ∷ []) in let long = ok.long in
+    now k clip t at at_t = let n = length-append s.closed (closed_turn s e ∷ []) in
         let last_at : get_elem? (s.tables ++ s.present ∷ []) (length (s.closed ++ closed_turn s e ∷ [])) ≡ some s.present = at_last s.tables s.present (length (s.closed ++ closed_turn s e ∷ [])) (omega arith) in
         let is : s.present ≡ t = some-injective s.present t (sym last_at ∙ at_t) in
         let u = there s.tables (length s.closed) (omega arith) in
@@ -345,7 +321,7 @@ server_line : (x : ℕ) (s : Server) (cs : List Client) (i : Item) → ((c : ℕ
 server_line x s cs i late = let E = length s.closed in let s' : Server = record s { log = s.log ++ i ∷ [] } in
     let quiet = joined_none (λ r. on x (client_items (suc E) r)) cs late in
     upto_more (segment x s' cs) (segment x s cs) (on x (i ∷ [])) (suc E)
-    (λ e lt. ap (λ l. on x l ++ joined (λ p. on x (client_items e p)) cs) (early_logs s (s.log ++ i ∷ []) e (omega arith)))
+    (λ e lt. ap (λ l. on x l ++ flat_map (λ p. on x (client_items e p)) cs) (early_logs s (s.log ++ i ∷ []) e (omega arith)))
     (ap (λ z. on x (server_items s' (suc E)) ++ z) quiet ∙ append-nil (on x (server_items s' (suc E))) ∙ ap (on x) (open_log s') ∙ on-append x s.log (i ∷ [])
     ∙ ap (λ z. z ++ on x (i ∷ [])) (sym (ap (λ z. on x (server_items s (suc E)) ++ z) quiet ∙ append-nil (on x (server_items s (suc E))) ∙ ap (on x) (open_log s))))
 
@@ -359,20 +335,20 @@ same_logs s e (suc k) le = turns_before s e k (omega arith)
 
 same_items : (e : JournalEntry) (k : ℕ) (p : Client) → client_items k (with_step e p) ≡ client_items k p
 same_items e k p = by_number e p (λ q. client_items k q ≡ client_items k p)
-    (λ _. ap (λ l. l ++ open_items k p.mode) (joined-append (call_items k) p.own (Step (own_step e) ∷ []) ∙ append-nil (joined (call_items k) p.own))) (λ _. refl)
+    (λ _. ap (λ l. l ++ open_items k p.mode) (joined-append (call_items k) p.own (Step (own_step e) ∷ []) ∙ append-nil (flat_map (call_items k) p.own))) (λ _. refl)
 
-same_joined : (x : ℕ) (e : JournalEntry) (k : ℕ) (cs : List Client) → joined (λ p. on x (client_items k p)) (map (with_step e) cs) ≡ joined (λ p. on x (client_items k p)) cs
+same_joined : (x : ℕ) (e : JournalEntry) (k : ℕ) (cs : List Client) → flat_map (λ p. on x (client_items k p)) (map (with_step e) cs) ≡ flat_map (λ p. on x (client_items k p)) cs
 same_joined x e k [] = refl
-same_joined x e k (p ∷ cs) = ap (λ z. on x z ++ joined (λ p. on x (client_items k p)) (map (with_step e) cs)) (same_items e k p) ∙ ap (λ z. on x (client_items k p) ++ z) (same_joined x e k cs)
+same_joined x e k (p ∷ cs) = ap (λ z. on x z ++ flat_map (λ p. on x (client_items k p)) (map (with_step e) cs)) (same_items e k p) ∙ ap (λ z. on x (client_items k p) ++ z) (same_joined x e k cs)
 
 given_line : (x : ℕ) (s : Server) (cs : List Client) (e : JournalEntry) → ((c : ℕ) (r : Client) → get_elem? cs c ≡ some r → on x (client_items (suc (suc (length s.closed))) r) ≡ [])
     → line x (after_give s e) (map (with_step e) cs) ≡ line x s cs
 given_line x s cs e late = let E = length s.closed in let s' = after_give s e in let cs' = map (with_step e) cs in
     let longer : length s'.closed ≡ suc E = length-append s.closed (closed_turn s e ∷ []) ∙ (omega arith) in
     ap (λ n. upto (segment x s' cs') (suc n)) longer
-    ∙ ap (λ z. upto (segment x s' cs') (suc E) ++ z) (ap (λ l. on x l ++ joined (λ p. on x (client_items (suc (suc E)) p)) cs') (ap (server_items s') (ap suc (sym longer)) ∙ open_log s') ∙ same_joined x e (suc (suc E)) cs ∙ joined_none (λ r. on x (client_items (suc (suc E)) r)) cs late)
+    ∙ ap (λ z. upto (segment x s' cs') (suc E) ++ z) (ap (λ l. on x l ++ flat_map (λ p. on x (client_items (suc (suc E)) p)) cs') (ap (server_items s') (ap suc (sym longer)) ∙ open_log s') ∙ same_joined x e (suc (suc E)) cs ∙ joined_none (λ r. on x (client_items (suc (suc E)) r)) cs late)
     ∙ append-nil (upto (segment x s' cs') (suc E))
-    ∙ upto_same (segment x s' cs') (segment x s cs) (suc E) (λ k le. ap (λ l. on x l ++ joined (λ p. on x (client_items k p)) cs') (same_logs s e k le) ∙ ap (λ z. on x (server_items s k) ++ z) (same_joined x e k cs))
+    ∙ upto_same (segment x s' cs') (segment x s cs) (suc E) (λ k le. ap (λ l. on x l ++ flat_map (λ p. on x (client_items k p)) cs') (same_logs s e k le) ∙ ap (λ z. on x (server_items s k) ++ z) (same_joined x e k cs))
 
 -- closed turns under one table more
 given_call : (key : Setting) (s : Server) (t : List ℕ) (c : ℕ) (a : Call) → length s.tables ≡ length s.closed + 1 → mark a ≤ length s.closed → CallOk key s.tables c a → CallOk key (s.tables ++ t ∷ []) c a
@@ -380,15 +356,15 @@ given_call key s t c (Step q) long le ok = tt
 given_call key s t c (Paint q) long le ok = λ u at. each_of (λ k u. k ≡ q.stamp → PaintOk key u c q) s.tables t
     (λ k u at eq. ok u (subst (λ j. get_elem? s.tables j ≡ some u) eq at)) (λ eq. absurd (omega arith)) q.stamp u at refl
 
-given_paints : (key : Setting) (s : Server) (e : JournalEntry) (c : ℕ) (p : Client) → length s.tables ≡ length s.closed + 1 → OrderOk (length s.closed) p → PaintsOk key s c p → PaintsOk key (after_give s e) c (with_step e p)
-given_paints key s e c p long order ok = by_number e p (PaintsOk key (after_give s e) c)
+given_paints : (key : Setting) (s : Server) (e : JournalEntry) (c : ℕ) (p : Client) → length s.tables ≡ length s.closed + 1 → OrderOk (length s.closed) p → PaintsOk key s.tables c p → PaintsOk key (after_give s e).tables c (with_step e p)
+given_paints key s e c p long order ok = by_number e p (PaintsOk key (after_give s e).tables c)
     (λ _. each_of (λ k a. CallOk key (s.tables ++ s.present ∷ []) c a) p.own (Step (own_step e)) old tt) (λ _. old)
   where
     old : (k : ℕ) (a : Call) → get_elem? p.own k ≡ some a → CallOk key (s.tables ++ s.present ∷ []) c a
     old k a at = given_call key s s.present c a long (let m = order.seen_own k a at in let w = order.seen_within in omega arith) (ok k a at)
 
 given_carried : (key : Setting) (s : Server) (e : JournalEntry) → length s.tables ≡ length s.closed + 1 → ((t : List ℕ) → get_elem? s.tables (length s.closed) ≡ some t → CarriesStep key (table_of t) (table_of s.present) e.command e.reply s.log)
-    → StepsOk key s → StepsOk key (after_give s e)
+    → StepsOk key s.closed s.tables → StepsOk key (after_give s e).closed (after_give s e).tables
 given_carried key s e long carries ok k turn t u at_turn at_t at_u = each_of (λ j turn. j ≡ k → CarriesStep key (table_of t) (table_of u) turn.command turn.reply turn.log) s.closed (closed_turn s e)
     (λ j turn at eq. let w = place_within s.closed j turn at in
     let t_old : get_elem? s.tables k ≡ some t = earlier_table k t (omega arith) at_t in let u_old : get_elem? s.tables (k + 1) ≡ some u = earlier_table (k + 1) u (omega arith) at_u in
@@ -402,11 +378,35 @@ given_carried key s e long carries ok k turn t u at_turn at_t at_u = each_of (λ
     earlier_table : (i : ℕ) (x : List ℕ) → i < length s.tables → get_elem? (s.tables ++ s.present ∷ []) i ≡ some x → get_elem? s.tables i ≡ some x
     earlier_table i x lt at = each_of (λ j x. j ≡ i → get_elem? s.tables i ≡ some x) s.tables s.present (λ j x at eq. subst (λ y. get_elem? s.tables y ≡ some x) eq at) (λ eq. absurd (omega arith)) i x at refl
 
+-- one more closed turn
+given_closed : (key : Setting) (s : Server) (cs : List Client) (e : JournalEntry) → ClosedOk key s.limits s.closed s.tables cs → ((c : ℕ) (p : Client) → get_elem? cs c ≡ some p → p.number ≡ c)
+    → e.number ≡ length s.closed + 1 → e.client < length s.limits → IsTable key.size (length s.limits) (length s.closed + 1) s.present → ((t : List ℕ) → get_elem? s.tables (length s.closed) ≡ some t → Follows t s.present)
+    → ((t : List ℕ) → get_elem? s.tables (length s.closed) ≡ some t → CarriesStep key (table_of t) (table_of s.present) e.command e.reply s.log)
+    → ClosedOk key s.limits (after_give s e).closed (after_give s e).tables (map (with_step e) cs)
+given_closed key s cs e ok numbers next inside table follows carries = let n = length-append s.closed (closed_turn s e ∷ []) in let m = length-append s.tables (s.present ∷ []) in let long = ok.long in record {
+  long = omega arith;
+  first = at_longer s.tables (s.present ∷ []) 0 _ ok.first;
+  well = each_of (IsTable key.size (length s.limits)) s.tables s.present ok.well (subst (λ k. IsTable key.size (length s.limits) k s.present) (sym long) table);
+  next = λ k t u at_t at_u. each_of (λ j u. (k : ℕ) (t : List ℕ) → j ≡ k + 1 → get_elem? (s.tables ++ s.present ∷ []) k ≡ some t → Follows t u) s.tables s.present
+      (λ j u at_u k t eq at_t. each_of (λ k t. j ≡ k + 1 → Follows t u) s.tables s.present
+      (λ k t at_t eq. ok.next k t u at_t (subst (λ i. get_elem? s.tables i ≡ some u) eq at_u))
+      (λ eq. let w = place_within s.tables j u at_u in absurd (omega arith)) k t at_t eq)
+      (λ k t eq at_t. each_of (λ k t. length s.tables ≡ k + 1 → Follows t s.present) s.tables s.present
+      (λ k t at_t eq. follows t (subst (λ i. get_elem? s.tables i ≡ some t) (let z : k ≡ length s.closed = omega arith in z) at_t))
+      (λ eq. absurd (omega arith)) k t at_t eq)
+      (k + 1) u at_u k t refl at_t;
+  order = λ c q at. let r = from_map (with_step e) cs c q at in subst (OrderOk (length (after_give s e).closed)) r.2 (given_order s e r.0 next (ok.order c r.0 r.1));
+  own_steps = λ c q at. let r = from_map (with_step e) cs c q at in subst (λ x. steps_in x.own ≡ steps_of c 0 (after_give s e).closed) r.2 (given_steps s e c r.0 next (numbers c r.0 r.1) (ok.own_steps c r.0 r.1));
+  named = each_of (λ k t. t.client < length s.limits) s.closed (closed_turn s e) ok.named inside;
+  paints = λ c q at. let r = from_map (with_step e) cs c q at in subst (PaintsOk key (after_give s e).tables c) r.2 (given_paints key s e c r.0 ok.long (ok.order c r.0 r.1) (ok.paints c r.0 r.1));
+  steps = given_carried key s e ok.long carries ok.steps;
+}
+
 fits_give : (key : Setting) (words : List ℕ) (s : Server) (cs : List Client) (e : JournalEntry) (n : ℕ) → Fits key words record { server = s; clients = cs } → s.mode ≡ Writing → e.number ≡ length s.closed + 1
     → n + 4294967296 ≡ get_or words 0 0 → e.client < length s.limits → IsNextTable s → CarriesAtGive s e → Fits key (set words 0 n) record { server = after_give s e; clients = map (with_step e) cs }
 fits_give key words s cs e n f writing next gate inside table carries = let same = gate_set words n in
     let stays : (x : ℕ) → line x (after_give s e) (map (with_step e) cs) ≡ line x s cs =
-    (λ x. given_line x s cs e (λ c r at. late_none words (length s.closed) x (suc (suc (length s.closed))) r (omega arith) (f.order c r at) (f.looks c r at))) in
+    (λ x. given_line x s cs e (λ c r at. late_none words (length s.closed) x (suc (suc (length s.closed))) r (omega arith) (f.closed.order c r at) (f.looks c r at))) in
     let quiet = f.apart (ap is_writing writing) in
     let here : IsTable key.size (length s.limits) (length s.closed + 1) s.present = subst (λ x. IsTable x.size (length s.limits) (length s.closed + 1) s.present) f.setting.server table.is_table in record {
       setting = record { long = same.long ∙ f.setting.long; screen = f.setting.screen; colour = f.setting.colour; server = f.setting.server };
@@ -417,17 +417,14 @@ fits_give key words s cs e n f writing next gate inside table carries = let same
       few = rw (length-map cs (with_step e)) f.few;
       seats = λ c q at. let r = from_map (with_step e) cs c q at in let ok = f.seats c r.0 r.1 in subst (SeatOk key (after_give s e) c) r.2
           (by_number e r.0 (SeatOk key (after_give s e) c) (λ _. record { setting_is = ok.setting_is; number_is = ok.number_is; limit_is = ok.limit_is }) (λ _. record { setting_is = ok.setting_is; number_is = ok.number_is; limit_is = ok.limit_is }));
-      order = λ c q at. let r = from_map (with_step e) cs c q at in subst (OrderOk (length (after_give s e).closed)) r.2 (given_order s e r.0 next (f.order c r.0 r.1));
-      own_steps = λ c q at. let r = from_map (with_step e) cs c q at in subst (λ x. steps_in x.own ≡ steps_of c 0 (after_give s e).closed) r.2 (given_steps s e c r.0 next (f.seats c r.0 r.1).number_is (f.own_steps c r.0 r.1));
-      named = each_of (λ k t. t.client < length s.limits) s.closed (closed_turn s e) f.named inside;
-      tables = given_tables key.size words (set words 0 n) s e same here table.follows f.tables;
-      clips = λ c q at. let r = from_map (with_step e) cs c q at in subst (ClipsOk key.size (after_give s e) c) r.2 (given_clips key.size words s e c r.0 f.tables table.follows (f.clips c r.0 r.1));
+      closed = given_closed key s cs e f.closed (λ c p at. (f.seats c p at).number_is) next inside here table.follows
+          (λ t at. subst (λ k. CarriesStep k (table_of t) (table_of s.present) e.command e.reply s.log) f.setting.server (carries t at));
+      tables = given_tables words (set words 0 n) s e same f.closed.long f.tables;
+      clips = λ c q at. let r = from_map (with_step e) cs c q at in subst (ClipsOk key.size (after_give s e) c) r.2 (given_clips key.size s e c r.0 f.closed.long table.follows (f.clips c r.0 r.1));
       looks = λ c q at. let r = from_map (with_step e) cs c q at in subst (λ x. LooksOk (set words 0 n) (length (after_give s e).closed) x.mode) r.2
           (quiet_looks (set words 0 n) (length (after_give s e).closed) (with_step e r.0).mode (ap reading_mode (same_mode e r.0) ∙ reading_one cs c r.0 quiet r.1));
       rights = λ c q at. let r = from_map (with_step e) cs c q at in subst (λ x. OpenRights key.size s.present c x.mode) r.2
           (quiet_rights key.size s.present c (with_step e r.0).mode (ap reading_mode (same_mode e r.0) ∙ reading_one cs c r.0 quiet r.1));
-      paints = λ c q at. let r = from_map (with_step e) cs c q at in subst (PaintsOk key (after_give s e) c) r.2 (given_paints key s e c r.0 f.tables.long (f.order c r.0 r.1) (f.paints c r.0 r.1));
-      steps = given_carried key s e f.tables.long (λ t at. subst (λ k. CarriesStep k (table_of t) (table_of s.present) e.command e.reply s.log) f.setting.server (carries t at)) f.steps;
       quiet = λ _. refl;
       lines = λ x far lt. let lo = line_far x far in
           subst (λ z. LineOk key x z (line x (after_give s e) (map (with_step e) cs))) (sym (same.same x (omega arith))) (subst (LineOk key x (get_or words x 0)) (sym (stays x)) (f.lines x far (rw (sym same.long) lt)));
@@ -452,9 +449,9 @@ gives_moves s ps cs e sit here = record {
 gives : (key : Setting) (slots id : ℕ) (s : Server) (ps : List Client) (e : JournalEntry) → s.mode ≡ Writing → e.number ≡ length s.closed + 1 → 1 ≤ clients_in e.client (head_view s ps) → IsNextTable s → CarriesAtGive s e
     → Allows (Holds key) slots id (head_view s ps, []) 0 (λ n. (n + (2 ^ 64 - 4294967296)) % 2 ^ 64) (given e (step slots 0 4294967296 0 none) (head_view s ps, []))
 gives key slots id s ps e writing next here table carries st holds _ at small =
-    let w = holds.world in let v = head_view s ps in let cs = w.clients in
+    let w = holds.parts in let v = head_view s ps in let cs = w.clients in
     let is : s ≡ w.server = holds.spread.server_is id v at in
-    let same : w ≡ record { server = s; clients = cs } = ap (λ x. let y : World = record { server = x; clients = cs } in y) (sym is) in
+    let same : w ≡ record { server = s; clients = cs } = ap (λ x. let y : Parts = record { server = x; clients = cs } in y) (sym is) in
     let f : Fits key st.words record { server = s; clients = cs } = subst (λ x. Fits key st.words x) same holds.fits in
     let there = client_of_here e.client ps here in
     let inside : e.client < length s.limits = (let ok = f.seats (client_of e.client ps).number (client_of e.client ps) (holds.spread.client_is id v at there.0.0 (client_of e.client ps) there.0.1) in
@@ -462,12 +459,12 @@ gives key slots id s ps e writing next here table carries st holds _ at small =
     let n : ℕ = get_or st.words 0 0 in let fits : n < 18446744073709551616 = small in
     let door : shut s.mode ≡ 4294967296 = ap shut writing in let g = f.gate in
     let less : (n + (2 ^ 64 - 4294967296)) % 2 ^ 64 ≡ n - 4294967296 = omega arith in
-    let w' : World = record { server = after_give s e; clients = map (with_step e) cs } in (
+    let w' : Parts = record { server = after_give s e; clients = map (with_step e) cs } in (
       head_view (after_give s e) (map (with_step e) ps),
       keeps,
       tt,
       record {
-        world = w';
+        parts = w';
         spread = spread_set st.views record { server = s; clients = cs } w' id v (head_view (after_give s e) (map (with_step e) ps)) (subst (λ x. Spread st.views x) same holds.spread) at (gives_moves s ps cs e (holds.spread.client_is id v at) here);
         fits = rw less (fits_give key st.words s cs e (n - 4294967296) f writing next (omega arith) inside table carries);
       },
@@ -485,25 +482,17 @@ fits_table key words s cs i v t writing f = let old = f.tables in let quiet = f.
   as_many = f.as_many;
   few = f.few;
   seats = λ c p e. let ok = f.seats c p e in record { setting_is = ok.setting_is; number_is = ok.number_is; limit_is = ok.limit_is };
-  order = f.order;
-  own_steps = f.own_steps;
-  named = f.named;
+  closed = f.closed;
   tables = record {
     wide = length-set s.present i v ∙ old.wide;
     shown = λ j t'. dite (ℕ_discrete j i)
         (λ eq. rw eq (let w = f.setting.long in let z = old.wide in get_or-set_same words i v 0 (omega arith) ∙ sym (get_or-set_same s.present i v 0 (omega arith))))
         (λ ne. get_or-set_other words i j v 0 ne ∙ old.shown j t' ∙ sym (get_or-set_other s.present i j v 0 ne));
-    long = old.long;
-    first = old.first;
     last = λ no. absurd (false≢true (sym no ∙ ap is_writing writing));
-    well = old.well;
-    next = old.next;
   };
   clips = f.clips;
   looks = λ c p e. quiet_looks (set words i v) (length s.closed) p.mode (reading_one cs c p quiet e);
   rights = λ c p e. quiet_rights key.size (set s.present i v) c p.mode (reading_one cs c p quiet e);
-  paints = f.paints;
-  steps = f.steps;
   quiet = f.quiet;
   lines = λ x far lt. subst (λ z. LineOk key x z (line x s cs)) (sym (get_or-set_other words i x v 0 (λ eq. not_both i x t far (sym eq)))) (f.lines x far (rw (sym (length-set words i v)) lt));
   picks = f.picks;
@@ -515,7 +504,7 @@ fits_table key words s cs i v t writing f = let old = f.tables in let quiet = f.
 served_picks : (key : Setting) (words : List ℕ) (s : Server) (cs : List Client) (x : ℕ) (i : Item) → Fits key words record { server = s; clients = cs } → item_word i ≡ x
     → Shows (written (first_value key x) (line x s cs)) (i ∷ []) → PicksOk key record s { log = s.log ++ i ∷ [] } cs
 served_picks key words s cs x i f same shows y = let E = length s.closed in let first = first_value key y in
-    let gained = server_line y s cs i (λ c r e. late_none words E y (suc E) r (omega arith) (f.order c r e) (f.looks c r e)) in
+    let gained = server_line y s cs i (λ c r e. late_none words E y (suc E) r (omega arith) (f.closed.order c r e) (f.looks c r e)) in
     dite (ℕ_discrete y x)
     (λ (eq : y ≡ x). let whole = gained ∙ ap (λ z. line y s cs ++ z) (on_here y i (same ∙ sym eq)) in
     subst (Shows first) (sym whole) (shows-append first (line y s cs) (i ∷ []) (f.picks y) (subst (λ z. Shows (written (first_value key z) (line z s cs)) (i ∷ [])) (sym eq) shows)))
@@ -524,25 +513,21 @@ served_picks key words s cs x i f same shows y = let E = length s.closed in let 
 fits_line : (key : Setting) (words : List ℕ) (s : Server) (cs : List Client) (x v : ℕ) → IsLineWord x → IsSceneColour key.depth v → s.mode ≡ Writing → Fits key words record { server = s; clients = cs }
     → Fits key (set words x v) record { server = record s { log = s.log ++ Put x v ∷ [] }; clients = cs }
 fits_line key words s cs x v far colour writing f = let quiet = f.apart (ap is_writing writing) in let i = Put x v in let E = length s.closed in let lo = line_far x far in
-    let tables = tables_kept key.size words x v s far f.tables in record {
+    let tables = tables_kept words x v s far f.tables in record {
       setting = record { long = length-set words x v ∙ f.setting.long; screen = f.setting.screen; colour = f.setting.colour; server = f.setting.server };
       gate = get_or-set_other words x 0 v 0 (λ eq. absurd (omega arith)) ∙ f.gate;
       apart = f.apart;
       as_many = f.as_many;
       few = f.few;
       seats = λ c p e. let ok = f.seats c p e in record { setting_is = ok.setting_is; number_is = ok.number_is; limit_is = ok.limit_is };
-      order = f.order;
-      own_steps = f.own_steps;
-      named = f.named;
-      tables = record { wide = tables.wide; shown = tables.shown; long = tables.long; first = tables.first; last = tables.last; well = tables.well; next = tables.next };
+      closed = f.closed;
+      tables = record { wide = tables.wide; shown = tables.shown; last = tables.last };
       clips = f.clips;
       looks = λ c p e. looks_kept words x v E p.mode far (f.looks c p e);
       rights = f.rights;
-      paints = f.paints;
-      steps = f.steps;
       quiet = λ no. absurd (false≢true (sym no ∙ ap is_writing writing));
       lines = λ y far_y hi. let inside : y < length words = rw (sym (length-set words x v)) hi in let old = f.lines y far_y inside in let first = first_value key y in
-          let gained = server_line y s cs i (λ c r e. late_none words E y (suc E) r (omega arith) (f.order c r e) (f.looks c r e)) in
+          let gained = server_line y s cs i (λ c r e. late_none words E y (suc E) r (omega arith) (f.closed.order c r e) (f.looks c r e)) in
           dite (ℕ_discrete y x)
           (λ (eq : y ≡ x). let at_x : on y (i ∷ []) ≡ i ∷ [] = on_here y i (sym eq) in let whole = gained ∙ ap (λ z. line y s cs ++ z) at_x in record {
             is_written = subst (λ z. get_or (set words z v) y 0 ≡ v) eq (get_or-set_same words y v 0 inside) ∙ sym (written-append first (line y s cs) (i ∷ [])) ∙ ap (written first) (sym whole);
@@ -564,18 +549,14 @@ fits_read key words s cs x far within writing f = let n : ℕ = get_or words x 0
   as_many = f.as_many;
   few = f.few;
   seats = λ c p e. let ok = f.seats c p e in record { setting_is = ok.setting_is; number_is = ok.number_is; limit_is = ok.limit_is };
-  order = f.order;
-  own_steps = f.own_steps;
-  named = f.named;
-  tables = record { wide = tables.wide; shown = tables.shown; long = tables.long; first = tables.first; last = tables.last; well = tables.well; next = tables.next };
+  closed = f.closed;
+  tables = record { wide = tables.wide; shown = tables.shown; last = tables.last };
   clips = f.clips;
   looks = f.looks;
   rights = f.rights;
-  paints = f.paints;
-  steps = f.steps;
   quiet = λ no. absurd (false≢true (sym no ∙ ap is_writing writing));
   lines = λ y far_y hi. let old = f.lines y far_y hi in let first = first_value key y in
-      let gained = server_line y s cs i (λ c r e. late_none words E y (suc E) r (omega arith) (f.order c r e) (f.looks c r e)) in
+      let gained = server_line y s cs i (λ c r e. late_none words E y (suc E) r (omega arith) (f.closed.order c r e) (f.looks c r e)) in
       dite (ℕ_discrete y x)
       (λ (eq : y ≡ x). let whole = gained ∙ ap (λ z. line y s cs ++ z) (on_here y i (sym eq)) in record {
         is_written = old.is_written ∙ sym (written-append first (line y s cs) (i ∷ [])) ∙ ap (written first) (sym whole);
@@ -591,6 +572,23 @@ word_kind : (x : ℕ) → 1 ≤ x → IsTableWord x ⊎ IsLineWord x
 word_kind x lo = dite (dec_le 10632 x) (λ hi. inr (inr hi)) (λ not. let b = lt_of_not-le not in dite (dec_le 2052 x) (λ hi. inl (inr (hi, omega arith)))
     (λ not2. let c = lt_of_not-le not2 in dite (dec_le 1028 x) (λ hi. inr (inl (hi, c))) (λ not3. let d = lt_of_not-le not3 in inl (inl (lo, omega arith)))))
 
+-- the last piece of a line is the server's open log
+line_ends : (x : ℕ) (s : Server) (cs : List Client) → ((c : ℕ) (r : Client) → get_elem? cs c ≡ some r → on x (client_items (suc (length s.closed)) r) ≡ [])
+    → line x s cs ≡ upto (segment x s cs) (length s.closed) ++ on x s.log
+line_ends x s cs late = let E = length s.closed in
+    ap (λ z. upto (segment x s cs) E ++ z)
+    (ap (λ z. on x (server_items s (suc E)) ++ z) (joined_none (λ r. on x (client_items (suc E) r)) cs late) ∙ append-nil (on x (server_items s (suc E))) ∙ ap (on x) (open_log s))
+
+own_item : (key : Setting) (words : List ℕ) (s : Server) (cs : List Client) (x : ℕ) → Fits key words record { server = s; clients = cs } → IsLineWord x → x < length words
+    → (v : ℕ) × Shows v (on x s.log) × (get_or words x 0 ≡ written v (on x s.log)) × (v ≡ written (first_value key x) (line x record s { log = [] } cs))
+own_item key words s cs x f far within = let E = length s.closed in let first = first_value key x in let before = upto (segment x s cs) E in
+    let s' : Server = record s { log = [] } in
+    let late : (c : ℕ) (r : Client) → get_elem? cs c ≡ some r → on x (client_items (suc E) r) ≡ [] = (λ c r e. late_none words E x (suc E) r (omega arith) (f.closed.order c r e) (f.looks c r e)) in
+    let whole = line_ends x s cs late in
+    let empty : line x s' cs ≡ before = line_ends x s' cs late ∙ append-nil (upto (segment x s' cs) E)
+    ∙ upto_same (segment x s' cs) (segment x s cs) E (λ e le. ap (λ l. on x l ++ flat_map (λ p. on x (client_items e p)) cs) (early_logs s [] e (omega arith))) in
+    (written first before, shows_split first before (on x s.log) (subst (Shows first) whole (f.picks x)), (f.lines x far within).is_written ∙ ap (written first) whole ∙ written-append first before (on x s.log), ap (written first) (sym empty))
+
 reads : (key : Setting) (slots id : ℕ) (s : Server) (ps : List Client) (i : ℕ) → 1 ≤ i → i < first_pixel + pixel_count key.size → s.mode ≡ Writing
     → Allows (Holds key) slots id (head_view s ps, []) i (λ n. n) (was_read (step slots i 0 0 none) (head_view s ps, []))
 reads key slots id s ps i lo hi writing = server_steps key slots id s ps i (λ n. n) (was_read (step slots i 0 0 none) (head_view s ps, []))
@@ -600,7 +598,7 @@ reads key slots id s ps i lo hi writing = server_steps key slots id s ps i (λ n
       subst (λ x. Fits key x record { server = s; clients = cs }) (sym (set_same words i)) f,
       (
         ap (λ b. let r : Server = record s { log = (if b then s.log else s.log ++ Pick i (get_or words i 0) ∷ []) } in let y : Me (Unit {0}) View = (head_view r ps, []) in y) (sym (table_is i t)),
-        record { present = λ _. f.tables.shown i t; colour = λ l. absurd (not_both i i t l refl); written_is = λ l _. absurd (not_both i i t l refl) },
+        record { present = λ _. f.tables.shown i t; colour = λ l. absurd (not_both i i t l refl); written_is = λ l _. absurd (not_both i i t l refl); own_log = λ l. absurd (not_both i i t l refl) },
       ),
     ))
     (λ (l : IsLineWord i). let here : i < length words = (let long = f.setting.long in omega arith) in let old = f.lines i l here in (
@@ -612,6 +610,8 @@ reads key slots id s ps i lo hi writing = server_steps key slots id s ps i (λ n
           present = λ t. absurd (not_both i i t l refl);
           colour = λ _. subst (λ k. IsSceneColour k.depth (get_or words i 0)) (sym f.setting.server) old.colour;
           written_is = λ _ here. old.is_written ∙ ap (λ k. written (first_value k i) (line i s cs)) (sym f.setting.server) ∙ ap (λ c. written (first_value s.setting i) (line i s c)) (all_arranged s cs ps f.as_many sit here);
+          own_log = λ l. let o = own_item key words s cs i f l here in
+              (o.0, o.1, o.2, λ all. o.3 ∙ ap (λ k. written (first_value k i) (line i record s { log = [] } cs)) (sym f.setting.server) ∙ ap (λ c. written (first_value s.setting i) (line i record s { log = [] } c)) (all_arranged s cs ps f.as_many sit all));
         },
       ),
     ))

@@ -1,8 +1,10 @@
 -- A client's seat leaves the head's, or its part goes to the head's. The world stays, or gains a client.
-use Rattle.fb_words.proofs.Joining.{joined-append, upto_same}
-use Rattle.fb_words.specs.Segments.{joined, client_items, server_items, segment, line, first_value, LineOk}
-use Rattle.fb_words.specs.Lines.{on, Shows}
+use Rattle.turn_logs.proofs.Joining.{joined-append, upto_same}
+use Rattle.turn_logs.specs.Lists.{total}
+use Rattle.fb_words.specs.Segments.{client_items, server_items, segment, line, first_value, LineOk}
+use Rattle.turn_logs.specs.Lines.{on, Shows}
 use Rattle.std.proofs.Common.{◌≡◌, ℕ, zero, suc, ◌+◌, ◌<◌, ◌≤◌, ◌≢◌, ◌⊎◌, ◌==◌, nat_lt, if◌then◌else◌, ne_eqb, Bool, true, false, List, [], ◌∷◌, ◌++◌, length, set, length-append, sym, refl, ap, ◌∙◌, subst, inl, inr, ⊎_elim, arith, Option, Some, None, append-nil, slice_index}
+use Rattle.std.specs.List.{flat_map}
 use Rattle.std.proofs.lemmas.Bool.Decides.{nat_tests}
 use mathlib.Core.Option.{some, some-ne-none}
 use lib.ListN.{get_elem?}
@@ -14,12 +16,12 @@ use Rattle.fb_words.specs.declared.known.Closed.{Closed}
 use Rattle.fb_words.specs.declared.known.View.{View}
 use Rattle.qws_base.specs.Sides.{Sides}
 use Rattle.qws_base.specs.Scenes.{Setting}
-use Rattle.fb_words.specs.Tables.{IsTable}
+use Rattle.turn_logs.specs.Tables.{IsTable}
 use Rattle.qws_base.specs.declared.journals.BookEntry.{BookEntry}
-use Rattle.fb_words.specs.Views.{total, is_client, alone, busy, reading, only, head_view, without, client_of, nothing, both_views, the_server, steps_in, books_in}
-use Rattle.fb_words.specs.Rule.{World, clients_in, a_server, servers_in, IsServer, Spread, SeatOk, OrderOk, step_call, steps_of, ClipsOk, LooksOk, Fits, Holds, OpenRights, PaintsOk}
+use Rattle.fb_words.specs.Views.{is_client, alone, busy, reading, only, head_view, without, client_of, nothing, both_views, the_server, steps_in, books_in}
+use Rattle.fb_words.specs.Rule.{Parts, clients_in, a_server, servers_in, IsServer, Spread, SeatOk, OrderOk, step_call, steps_of, ClipsOk, LooksOk, Fits, Holds, OpenRights, PaintsOk}
 use Rattle.fb_words.specs.Steps.{fresh, with_limit}
-use Rattle.fb_words.proofs.Totals.{total_set, total_snoc, total_append, total_two}
+use Rattle.turn_logs.proofs.Totals.{total_set, total_snoc, total_append, total_two}
 use Rattle.fb_words.proofs.Places.{each_of}
 use Rattle.fb_words.proofs.Spreads.{SitIn, only_one}
 
@@ -27,13 +29,13 @@ abbrev one_if : ℕ → ℕ → ℕ
 one_if c n = if nat_lt c n then 1 else 0
 
 -- The seat with the view v keeps l, and a new seat has the client q, which stood in v
-pub record Leaves (v l : View) (q : Client) (w : World) : Type 0 where
+pub record Leaves (v l : View) (q : Client) (w : Parts) : Type 0 where
   pub server_same : l.server ≡ v.server
   pub clients : (c : ℕ) → clients_in c l + is_client c q ≡ clients_in c v
   pub still : (k : ℕ) (p : Client) → get_elem? l.clients k ≡ some p → get_elem? w.clients p.number ≡ some p
   pub away : get_elem? w.clients q.number ≡ some q
 
-pub spread_split : (views : List View) (w : World) (id : ℕ) (v l : View) (q : Client) → Spread views w → get_elem? views id ≡ some v → Leaves v l q w → Spread (set views id l ++ alone q ∷ []) w
+pub spread_split : (views : List View) (w : Parts) (id : ℕ) (v l : View) (q : Client) → Spread views w → get_elem? views id ≡ some v → Leaves v l q w → Spread (set views id l ++ alone q ∷ []) w
 spread_split views w id v l q s here m = record {
   one_server = let t = total_set servers_in views id v l here in let u = total_snoc servers_in (set views id l) (alone q) in let one = s.one_server in
       let same : servers_in l ≡ servers_in v = ap a_server m.server_same in omega arith;
@@ -88,9 +90,9 @@ cut_counts c d (x ∷ xs) h = go (x.number == c) refl h (cut_counts c d xs)
 
 pub rises : (key : Setting) (id c : ℕ) (s : Server) (ps : List Client) → 1 ≤ total (is_client c) ps
     → Splits (Holds key) id (head_view s ps) (head_view s (without c ps)) (alone (client_of c ps))
-rises key id c s ps here st holds at = let w = holds.world in let there = client_of_here c ps here in let q = client_of c ps in
+rises key id c s ps here st holds at = let w = holds.parts in let there = client_of_here c ps here in let q = client_of c ps in
     let sit : SitIn w.clients ps = holds.spread.client_is id (head_view s ps) at in record {
-      world = w;
+      parts = w;
       spread = spread_split st.views w id (head_view s ps) (head_view s (without c ps)) q holds.spread at record {
         server_same = refl;
         clients = λ d. cut_counts c d ps here;
@@ -107,10 +109,10 @@ at_both (x ∷ xs) m zero a e = inl (0, e)
 at_both (x ∷ xs) m (suc k) a e = ⊎_elim (λ (t : (j : ℕ) × (get_elem? xs j ≡ some a)). inl (suc t.0, t.1)) (λ (t : (j : ℕ) × (get_elem? m j ≡ some a)). inr t) (at_both xs m k a e)
 
 pub sits : (key : Setting) (id other : ℕ) (v : View) (q : Client) → Joins (Holds key) id v other (alone q) (both_views v (alone q)) nothing
-sits key id other v q st holds at apart there = let w = holds.world in let s = holds.spread in let b = both_views v (alone q) in
+sits key id other v q st holds at apart there = let w = holds.parts in let s = holds.spread in let b = both_views v (alone q) in
     let views = set st.views id b in
     let was : get_elem? st.views other ≡ some (alone q) = sym (set_else st.views id other b apart) ∙ there in record {
-      world = w;
+      parts = w;
       spread = record {
         one_server = let t = total_set servers_in st.views id v b at in let u = total_set servers_in views other (alone q) nothing there in let one = s.one_server in omega arith;
         one_client = λ c. let t = total_set (clients_in c) st.views id v b at in let u = total_set (clients_in c) views other (alone q) nothing there in
@@ -146,7 +148,7 @@ none_yet c n (t ∷ ts) away = let r = none_yet c (n + 1) ts (λ k u e. away (su
 admitted_line : (x : ℕ) (s : Server) (cs : List Client) (limit : ℕ) → line x (with_limit s limit) (cs ++ fresh s.setting (length s.limits) limit ∷ []) ≡ line x s cs
 admitted_line x s cs limit = let q = fresh s.setting (length s.limits) limit in
     upto_same (segment x (with_limit s limit) (cs ++ q ∷ [])) (segment x s cs) (suc (length s.closed))
-    (λ e le. ap (λ z. on x (server_items s e) ++ z) (joined-append (λ r. on x (client_items e r)) cs (q ∷ []) ∙ append-nil (joined (λ r. on x (client_items e r)) cs)))
+    (λ e le. ap (λ z. on x (server_items s e) ++ z) (joined-append (λ r. on x (client_items e r)) cs (q ∷ []) ∙ append-nil (flat_map (λ r. on x (client_items e r)) cs)))
 
 more_admitted : (size : Sides) (n m stamp : ℕ) (t : List ℕ) → n ≤ m → IsTable size n stamp t → IsTable size m stamp t
 more_admitted size n m stamp t le ok = record {
@@ -161,7 +163,7 @@ more_admitted size n m stamp t le ok = record {
   cursor = ok.cursor;
 }
 
--- Admission: the world gains a client
+-- Admission: the parts gain a client
 admit_fits : (key : Setting) (words : List ℕ) (s : Server) (cs : List Client) (limit : ℕ) → Fits key words record { server = s; clients = cs } → length s.limits < 16
     → Fits key words record { server = with_limit s limit; clients = cs ++ fresh s.setting (length s.limits) limit ∷ [] }
 admit_fits key words s cs limit f room = let q = fresh s.setting (length s.limits) limit in let m = f.as_many in
@@ -174,16 +176,22 @@ admit_fits key words s cs limit f room = let q = fresh s.setting (length s.limit
       seats = each_of (SeatOk key (with_limit s limit)) cs q
           (λ c p e. let ok = f.seats c p e in record { setting_is = ok.setting_is; number_is = ok.number_is; limit_is = at_longer s.limits (limit ∷ []) c p.step_limit ok.limit_is })
           record { setting_is = f.setting.server; number_is = m; limit_is = at_last s.limits limit (length cs) m };
-      order = each_of (λ c p. OrderOk (length s.closed) p) cs q f.order record { rises = λ j k a b lt e d. absurd (some-ne-none a (sym e)); seen_own = λ k a e. absurd (some-ne-none a (sym e)); seen_within = omega arith };
-      own_steps = each_of (λ c p. steps_in p.own ≡ steps_of c 0 s.closed) cs q f.own_steps
-          (sym (none_yet (length cs) 0 s.closed (λ k t e. let n = f.named k t e in (λ eq. absurd (omega arith)))));
-      named = λ k t e. let n = f.named k t e in omega arith;
-      tables = let ok = f.tables in record { wide = ok.wide; shown = ok.shown; long = ok.long; first = ok.first; last = ok.last; well = λ e t at. more_admitted key.size (length s.limits) (length (s.limits ++ limit ∷ [])) e t (omega arith) (ok.well e t at); next = ok.next };
+      closed = let ok = f.closed in record {
+        long = ok.long;
+        first = ok.first;
+        well = λ e t at. more_admitted key.size (length s.limits) (length (s.limits ++ limit ∷ [])) e t (omega arith) (ok.well e t at);
+        next = ok.next;
+        order = each_of (λ c p. OrderOk (length s.closed) p) cs q ok.order record { rises = λ j k a b lt e d. absurd (some-ne-none a (sym e)); seen_own = λ k a e. absurd (some-ne-none a (sym e)); seen_within = omega arith };
+        own_steps = each_of (λ c p. steps_in p.own ≡ steps_of c 0 s.closed) cs q ok.own_steps
+            (sym (none_yet (length cs) 0 s.closed (λ k t e. let n = ok.named k t e in (λ eq. absurd (omega arith)))));
+        named = λ k t e. let n = ok.named k t e in omega arith;
+        paints = each_of (PaintsOk key s.tables) cs q ok.paints (λ k a e. absurd (some-ne-none a (sym e)));
+        steps = ok.steps;
+      };
+      tables = let ok = f.tables in record { wide = ok.wide; shown = ok.shown; last = ok.last };
       clips = each_of (ClipsOk key.size (with_limit s limit)) cs q f.clips (λ k clip t e at. absurd (some-ne-none clip (sym e)));
       looks = each_of (λ c p. LooksOk words (length s.closed) p.mode) cs q f.looks tt;
       rights = each_of (λ c p. OpenRights key.size s.present c p.mode) cs q f.rights tt;
-      paints = each_of (PaintsOk key s) cs q f.paints (λ k a e. absurd (some-ne-none a (sym e)));
-      steps = f.steps;
       quiet = f.quiet;
       lines = λ x far lt. subst (LineOk key x (slice_index words x)) (sym (admitted_line x s cs limit)) (f.lines x far lt);
       picks = λ x. subst (Shows (first_value key x)) (sym (admitted_line x s cs limit)) (f.picks x);
@@ -192,15 +200,15 @@ admit_fits key words s cs limit f room = let q = fresh s.setting (length s.limit
 -- a new client's seat leaves the head's
 pub admits : (key : Setting) (id limit : ℕ) (s : Server) (ps : List Client) → length s.limits < 16
     → Splits (Holds key) id (head_view s ps) (head_view (with_limit s limit) ps) (alone (fresh s.setting (length s.limits) limit))
-admits key id limit s ps room st holds at = let w = holds.world in let v = head_view s ps in let cs = w.clients in
+admits key id limit s ps room st holds at = let w = holds.parts in let v = head_view s ps in let cs = w.clients in
     let is : s ≡ w.server = holds.spread.server_is id v at in
-    let same : w ≡ record { server = s; clients = cs } = ap (λ x. let y : World = record { server = x; clients = cs } in y) (sym is) in
+    let same : w ≡ record { server = s; clients = cs } = ap (λ x. let y : Parts = record { server = x; clients = cs } in y) (sym is) in
     let f : Fits key st.words record { server = s; clients = cs } = subst (λ x. Fits key st.words x) same holds.fits in
     let q = fresh s.setting (length s.limits) limit in let l = head_view (with_limit s limit) ps in
-    let w' : World = record { server = with_limit s limit; clients = cs ++ q ∷ [] } in
+    let w' : Parts = record { server = with_limit s limit; clients = cs ++ q ∷ [] } in
     let old = holds.spread in let m = f.as_many in
     let one_more : (c : ℕ) → is_client c q + one_if c (length cs) ≡ one_if c (length (cs ++ q ∷ [])) = (λ c. grown c (length s.limits) (length cs) (length (cs ++ q ∷ [])) m (length-append cs (q ∷ []))) in record {
-      world = w';
+      parts = w';
       spread = record {
         one_server = let t = total_set servers_in st.views id v l at in let u = total_snoc servers_in (set st.views id l) (alone q) in let one = old.one_server in omega arith;
         one_client = λ c. let t = total_set (clients_in c) st.views id v l at in let u = total_snoc (clients_in c) (set st.views id l) (alone q) in let one = old.one_client c in let more = one_more c in omega arith;

@@ -9,10 +9,12 @@ use Rattle.fb_words.specs.declared.known.Client.{Client}
 use Rattle.fb_words.specs.declared.known.Server.{Server}
 use Rattle.fb_words.specs.declared.known.View.{View}
 use Rattle.qws_base.specs.Scenes.{Setting}
-use Rattle.fb_words.specs.Views.{total, is_client, alone, head_view}
-use Rattle.fb_words.specs.Rule.{World, clients_in, a_server, servers_in, IsServer, Spread, Fits, Holds}
+use Rattle.turn_logs.specs.Lists.{total}
+use Rattle.fb_words.specs.Views.{is_client, alone, head_view}
+use Rattle.fb_words.specs.Rule.{Parts, clients_in, a_server, servers_in, IsServer, Spread, Fits, Holds}
 use Rattle.fb_words.specs.Steps.{SitOnce}
-use Rattle.fb_words.proofs.Totals.{total_set, total_one, total_two}
+use Rattle.turn_logs.proofs.Joining.{place_within}
+use Rattle.turn_logs.proofs.Totals.{total_set, total_one, total_two}
 
 pub is_itself : (p : Client) → is_client p.number p ≡ 1
 is_itself p = ap (λ b. if b then 1 else 0) (eq-eqb p.number p.number refl)
@@ -28,7 +30,7 @@ pub counted : (v : View) (k : ℕ) (p : Client) → get_elem? v.clients k ≡ so
 counted v k p e = let one = total_one (is_client p.number) v.clients k p e in let me = is_itself p in omega arith
 
 -- no other view has a client that this one has
-pub other_lacks : (views : List View) (w : World) (id j : ℕ) (v u : View) (k : ℕ) (p : Client) → Spread views w → j ≢ id
+pub other_lacks : (views : List View) (w : Parts) (id j : ℕ) (v u : View) (k : ℕ) (p : Client) → Spread views w → j ≢ id
     → get_elem? views id ≡ some v → get_elem? views j ≡ some u → get_elem? u.clients k ≡ some p → clients_in p.number v ≡ 0
 other_lacks views w id j v u k p s n here there e =
     let two = total_two (clients_in p.number) views id j v u n here there in let one = s.one_client p.number in let most = at_most_one p.number (length w.clients) in
@@ -40,7 +42,7 @@ is_server_else None (Some x) s t few same is = is ∙ same refl
 is_server_else (Some y) (Some x) s t few same is = absurd (omega arith)
 
 -- what the seat with the view v may change of the world, when v becomes v'
-pub record Moves (v v' : View) (w w' : World) : Type 0 where
+pub record Moves (v v' : View) (w w' : Parts) : Type 0 where
   pub as_many_servers : servers_in v' ≡ servers_in v
   pub as_many_clients : (c : ℕ) → clients_in c v' ≡ clients_in c v
   pub as_long : length w'.clients ≡ length w.clients
@@ -49,7 +51,7 @@ pub record Moves (v v' : View) (w w' : World) : Type 0 where
   pub client_is : (k : ℕ) (p : Client) → get_elem? v'.clients k ≡ some p → get_elem? w'.clients p.number ≡ some p
   pub client_same : (p : Client) → clients_in p.number v ≡ 0 → get_elem? w.clients p.number ≡ some p → get_elem? w'.clients p.number ≡ some p
 
-pub spread_set : (views : List View) (w w' : World) (id : ℕ) (v v' : View) → Spread views w → get_elem? views id ≡ some v → Moves v v' w w' → Spread (set views id v') w'
+pub spread_set : (views : List View) (w w' : Parts) (id : ℕ) (v v' : View) → Spread views w → get_elem? views id ≡ some v → Moves v v' w w' → Spread (set views id v') w'
 spread_set views w w' id v v' s here m = record {
   one_server = let t = total_set servers_in views id v v' here in let one = s.one_server in let same = m.as_many_servers in omega arith;
   one_client = λ c. let t = total_set (clients_in c) views id v v' here in let one = s.one_client c in let same = m.as_many_clients c in
@@ -65,7 +67,7 @@ spread_set views w w' id v v' s here m = record {
       (at_set views id j v' u e);
 }
 
-abbrev pub with_client : World → Client → World
+abbrev pub with_client : Parts → Client → Parts
 with_client w q = record w { clients = set w.clients q.number q }
 
 pub only_one : (p : Client) (k : ℕ) (q : Client) → get_elem? (p ∷ []) k ≡ some q → p ≡ q
@@ -75,12 +77,7 @@ only_one p (suc k) q e = absurd (some-ne-none q (sym e))
 is_apart : (p q : Client) → is_client q.number p + 0 ≡ 0 → q.number ≢ p.number
 is_apart p q none e = let one = ap (λ n. is_client n p) (sym e) in let me = is_itself p in omega arith
 
-pub place_within : {A : Type 0} (l : List A) (k : ℕ) (a : A) → get_elem? l k ≡ some a → k < length l
-place_within [] k a e = absurd (some-ne-none a (sym e))
-place_within (x ∷ xs) zero a e = omega arith
-place_within (x ∷ xs) (suc k) a e = let r = place_within xs k a e in omega arith
-
-client_moves : (w : World) (p q : Client) → q.number ≡ p.number → get_elem? w.clients p.number ≡ some p → Moves (alone p) (alone q) w (with_client w q)
+client_moves : (w : Parts) (p q : Client) → q.number ≡ p.number → get_elem? w.clients p.number ≡ some p → Moves (alone p) (alone q) w (with_client w q)
 client_moves w p q same at = record {
   as_many_servers = refl;
   as_many_clients = λ c. ap (λ n. (if n == c then 1 else 0) + 0) same;
@@ -97,18 +94,18 @@ Empty = Unit {0}
 
 -- A step of a seat that holds one client part alone: it owes a fact about the words and the world
 pub client_steps : (key : Setting) (slots id : ℕ) (p : Client) (i : ℕ) (f : ℕ → ℕ) (tells : ℕ → Me Empty View → Type 0)
-    → ((words : List ℕ) (w : World) → Fits key words w → get_elem? w.clients p.number ≡ some p → get_or words i 0 < 18446744073709551616
+    → ((words : List ℕ) (w : Parts) → Fits key words w → get_elem? w.clients p.number ≡ some p → get_or words i 0 < 18446744073709551616
     → (q : Client) × (q.number ≡ p.number) × Fits key (set words i (f (get_or words i 0))) (with_client w q) × tells (get_or words i 0) (alone q, []))
     → Allows (Holds key) slots id (alone p, []) i f tells
 client_steps key slots id p i f tells owes s holds _ at small =
-    let w = holds.world in
+    let w = holds.parts in
     let mine : get_elem? w.clients p.number ≡ some p = holds.spread.client_is id (alone p) at 0 p refl in
     let r = owes s.words w holds.fits mine small in
     let q : Client = r.0 in (
       alone q,
       keeps,
       tt,
-      record { world = with_client w q; spread = spread_set s.views w (with_client w q) id (alone p) (alone q) holds.spread at (client_moves w p q r.1 mine); fits = r.2 },
+      record { parts = with_client w q; spread = spread_set s.views w (with_client w q) id (alone p) (alone q) holds.spread at (client_moves w p q r.1 mine); fits = r.2 },
       r.3,
     )
 
@@ -122,18 +119,18 @@ pub server_steps : (key : Setting) (slots id : ℕ) (s : Server) (ps : List Clie
     → (t : Server) × Fits key (set words i (f (get_or words i 0))) record { server = t; clients = cs } × tells (get_or words i 0) (head_view t ps, []))
     → Allows (Holds key) slots id (head_view s ps, []) i f tells
 server_steps key slots id s ps i f tells owes st holds _ at small =
-    let w = holds.world in let v = head_view s ps in
+    let w = holds.parts in let v = head_view s ps in
     let is : s ≡ w.server = holds.spread.server_is id v at in
     let sit : SitIn w.clients ps = holds.spread.client_is id v at in
-    let same : w ≡ record { server = s; clients = w.clients } = ap (λ x. let y : World = record { server = x; clients = w.clients } in y) (sym is) in
+    let same : w ≡ record { server = s; clients = w.clients } = ap (λ x. let y : Parts = record { server = x; clients = w.clients } in y) (sym is) in
     let single : SitOnce ps = (λ c. let one = holds.spread.one_client c in let most = at_most_one c (length w.clients) in let here = total_one (clients_in c) st.views id v at in omega arith) in
     let r = owes st.words w.clients (subst (λ x. Fits key st.words x) same holds.fits) sit single small in
-    let t : Server = r.0 in let w' : World = record { server = t; clients = w.clients } in (
+    let t : Server = r.0 in let w' : Parts = record { server = t; clients = w.clients } in (
       head_view t ps,
       keeps,
       tt,
       record {
-        world = w';
+        parts = w';
         spread = spread_set st.views w w' id v (head_view t ps) holds.spread at record {
           as_many_servers = refl;
           as_many_clients = λ c. refl;

@@ -1,18 +1,22 @@
 -- What a client has looked at, and the rows that it keeps.
-use Rattle.std.specs.Prelude.{◌≡◌, ℕ, zero, suc, ◌+◌, ◌<◌, ◌≤◌, ◌==◌, if◌then◌else◌, Bool, false, List, [], ◌∷◌, length, slice_index, Option, Some, None}
+use Rattle.std.specs.Prelude.{◌≡◌, ℕ, zero, suc, ◌+◌, ◌<◌, ◌≤◌, ◌==◌, if◌then◌else◌, Bool, false, ◌⊎◌, List, [], ◌∷◌, map, length, slice_index, Option, Some, None}
 use mathlib.Core.Option.{some}
 use lib.ListN.{get_elem?}
 use Rattle.qws_base.specs.Sides.{Sides}
-use Rattle.qws_base.specs.Points.{pixel_count}
-use Rattle.region_table.specs.Numbers.{row_word, IsTableWord}
+use Rattle.qws_base.specs.Points.{any_holds, point_of, pixel_count}
+use Rattle.qws_base.specs.Windows.{owns}
+use Rattle.region_table.specs.Numbers.{stamp_at, row_size, row_word, IsTableWord}
 use Rattle.region_table.specs.Packing.{unpacked}
-use Rattle.fb_words.specs.declared.known.Item.{Item}
+use Rattle.region_table.specs.Tables.{row_of, origin_from}
+use Rattle.region_table.specs.Layouts.{layout_of_table}
+use Rattle.region_table.specs.declared.tables.Row.{Row}
+use Rattle.turn_logs.specs.declared.items.Item.{Item}
 use Rattle.fb_words.specs.declared.known.Looked.{Looked}
 use Rattle.fb_words.specs.declared.known.KeptClip.{KeptClip}
 use Rattle.fb_words.specs.declared.known.Mode.{Mode}
 use Rattle.fb_words.specs.declared.known.Mode.TheVariants.{Idle, Refused, Reading}
 use Rattle.fb_words.specs.declared.known.Client.{Client}
-use Rattle.fb_words.specs.Tables.{owner_in, revision_in, origin_in, count_in, rect_in, RectHas, IsOnScreen, IsTable}
+use Rattle.turn_logs.specs.Tables.{table_of, owner_in, revision_in, origin_in, count_in, rect_in, RectHas, IsOnScreen, IsTable}
 
 -- ---- looked words
 
@@ -54,6 +58,21 @@ spelled number s looked =
     then clip_of s (look_of looked (row_word s + 1)) (look_of looked (row_word s + 2)) (rects_of looked s (look_of looked (row_word s + 3)))
     else None
 
+-- each word of the clip's row was looked at, and by them the client owns it
+pub record IsLookedRow (number : ℕ) (looked : List Looked) (clip : KeptClip) : Type 0 where
+  pub owner : look_of looked (row_word clip.slot) ≡ Some (number + 1)
+  pub revision : look_of looked (row_word clip.slot + 1) ≡ Some clip.revision
+  pub origin : look_of looked (row_word clip.slot + 2) ≡ Some clip.origin
+  pub count : look_of looked (row_word clip.slot + 3) ≡ Some (length clip.rects)
+  pub rects : (j word : ℕ) → get_elem? clip.rects j ≡ some word → look_of looked (row_word clip.slot + 4 + j) ≡ Some word
+
+-- looks of one word after another are those of all; the looked words spell a row exactly where each of its words was looked
+-- at, and the client owns it
+pub record LookedLaw : Type 0 where
+  pub together : (looked : List Looked) (i : ℕ) (values : List ℕ) → ((j value : ℕ) → get_elem? values j ≡ some value → look_of looked (i + j) ≡ Some value) → looks_of looked i (length values) ≡ Some values
+  pub row : (number : ℕ) (looked : List Looked) (clip : KeptClip) → IsLookedRow number looked clip → spelled number clip.slot looked ≡ Some clip
+  pub back : (number slot : ℕ) (looked : List Looked) (clip : KeptClip) → spelled number slot looked ≡ Some clip → (clip.slot ≡ slot) × IsLookedRow number looked clip
+
 -- the row of the turn's slot
 abbrev pub row_seen : ℕ → Mode → Option KeptClip
 row_seen number Idle = None
@@ -76,6 +95,10 @@ if_slot s (Some clip) other = if clip.slot == s then Some clip else other
 -- an earlier turn stored.
 abbrev pub kept : Client → ℕ → Option KeptClip
 kept p s = if_slot s (row_seen p.number p.mode) (stored p.clips s)
+
+-- the word isn't of the slot's row
+abbrev pub IsOutsideRow : ℕ → ℕ → Type 0
+IsOutsideRow slot word = (word < row_word slot) ⊎ (row_word slot + row_size ≤ word)
 
 -- q keeps for each slot what p keeps
 abbrev pub KeepsClips : Client → Client → Type 0
@@ -143,12 +166,28 @@ pub record Sees (p : Client) : Type 0 where
   pub table : List ℕ
   pub admitted : ℕ
   pub few : admitted ≤ 16
-  pub is_table : IsTable p.setting.size admitted (slice_index table 1) table
+  pub is_table : IsTable p.setting.size admitted (slice_index table stamp_at) table
   pub looks : LooksTrue table (looked_in p.mode)
-  pub seen : p.seen ≤ slice_index table 1
+  pub seen : p.seen ≤ slice_index table stamp_at
   pub clips : (k : ℕ) (clip : KeptClip) → get_elem? p.clips k ≡ some clip → IsClip p.setting.size table p.number clip
 
 -- A client that sees a table keeps for each slot a clip of the slot, which is judged by the table.
 abbrev pub KeptLaw : Type 0
 KeptLaw = (p : Client) (sees : Sees p) (slot : ℕ) (clip : KeptClip) → kept p slot ≡ Some clip
     → (clip.slot ≡ slot) × IsClip p.setting.size sees.table p.number clip
+
+-- ---- kept clips as rows of a table
+
+-- the row that a clip of client c is
+abbrev pub row_of_clip : ℕ → KeptClip → Row
+row_of_clip c clip = record { owner = Some c; revision = clip.revision; origin = origin_from clip.origin; rects = map unpacked clip.rects }
+
+-- The looked words of a table are true. A row that they spell is judged by the table, and has its row's revision. A clip with the
+-- row's revision is the row of its slot in the table that the words spell, and its rectangles have the slot's pixels.
+pub record RowLaw : Type 0 where
+  pub true_in : (t : List ℕ) (looked : List Looked) (i v : ℕ) → LooksTrue t looked → look_of looked i ≡ Some v → IsTableWord i × (slice_index t i ≡ v)
+  pub judged : (size : Sides) (admitted stamp number : ℕ) (t : List ℕ) (looked : List Looked) (clip : KeptClip) → IsTable size admitted stamp t → LooksTrue t looked → clip.slot < 33 → IsLookedRow number looked clip
+      → IsClip size t number clip × (clip.revision ≡ revision_in t clip.slot)
+  pub row : (size : Sides) (t : List ℕ) (c : ℕ) (clip : KeptClip) → IsClip size t c clip → clip.revision ≡ revision_in t clip.slot → row_of (table_of t) clip.slot ≡ row_of_clip c clip
+  pub pixels : (size : Sides) (admitted stamp : ℕ) (t : List ℕ) (c : ℕ) (clip : KeptClip) → IsTable size admitted stamp t → IsClip size t c clip → clip.revision ≡ revision_in t clip.slot
+      → (p : ℕ) → p < pixel_count size → owns (layout_of_table size (table_of t)) clip.slot p ≡ any_holds (map unpacked clip.rects) (point_of size.w p)

@@ -1,10 +1,10 @@
-pub mod Lines
-pub mod Carries
-pub mod Sessions
-pub mod Tables
 pub mod Clips
 pub mod Views
 pub mod Segments
 pub mod Rights
 pub mod Rule
 pub mod Steps
+pub mod Looks
+pub mod Turns
+pub mod Desks
+pub mod ServerLogs

@@ -6,12 +6,12 @@ use Rattle.qws_base.specs.Sides.{Sides}
 use Rattle.qws_base.specs.Points.{point_of, pixel_count}
 use Rattle.qws_base.specs.Shown.{cell_on}
 use Rattle.qws_base.specs.declared.windows.Cursor.{Cursor}
-use Rattle.region_table.specs.Numbers.{row_word, pixel_word, saved_word}
-use Rattle.fb_words.specs.declared.known.Item.{Item}
+use Rattle.region_table.specs.Numbers.{place_at, shape_at, row_word, pixel_word, saved_word}
+use Rattle.turn_logs.specs.declared.items.Item.{Item}
 use Rattle.fb_words.specs.declared.known.KeptClip.{KeptClip}
 use Rattle.fb_words.specs.declared.known.Client.{Client}
-use Rattle.fb_words.specs.Lines.{item_word}
-use Rattle.fb_words.specs.Tables.{owner_in, RectHas, RowHas}
+use Rattle.turn_logs.specs.Lines.{item_word}
+use Rattle.turn_logs.specs.Tables.{owner_in, RectHas, RowHas}
 use Rattle.fb_words.specs.Clips.{look_of, stamp_in, slot_in, looked_in, kept, Sees}
 
 -- ---- cells
@@ -54,7 +54,7 @@ pub record IsGiven (size : Sides) (t : List ℕ) (c s x : ℕ) : Type 0 where
   pub pixel : ℕ
   pub on_screen : pixel < pixel_count size
   pub holds : RowHas size t s rect pixel
-  pub word : IsWordOf size (slice_index t 2) (slice_index t 3) pixel x
+  pub word : IsWordOf size (slice_index t place_at) (slice_index t shape_at) pixel x
 
 -- each item of the log lies on a word that the table gives client c in the slot
 abbrev pub LogIn : Sides → List ℕ → ℕ → ℕ → List Item → Type 0
@@ -78,7 +78,7 @@ pub record Owns (p : Client) (x : ℕ) : Type 0 where
   pub on_screen : pixel < pixel_count p.setting.size
   pub holds : RectHas p.setting.size rect_word pixel
   pub word : (x ≡ pixel_word pixel)
-      ⊎ ((place : ℕ) × (shape : ℕ) × (look_of (looked_in p.mode) 2 ≡ Some place) × (look_of (looked_in p.mode) 3 ≡ Some shape) × IsSavedOver p.setting.size place shape pixel x)
+      ⊎ ((place : ℕ) × (shape : ℕ) × (look_of (looked_in p.mode) place_at ≡ Some place) × (look_of (looked_in p.mode) shape_at ≡ Some shape) × IsSavedOver p.setting.size place shape pixel x)
 
 -- what a client owns in its turn, a table that it sees gives it in the slot of the kept clip
 abbrev pub OwnedLaw : Type 0

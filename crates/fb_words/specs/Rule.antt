@@ -1,4 +1,4 @@
--- The rule of the shared words: the views share out one world, and the words fit it.
+-- The rule of the shared words: the views share out all parts, and the words fit them.
 use Rattle.std.specs.Prelude.{◌≡◌, ℕ, ◌+◌, ◌<◌, ◌≤◌, ◌==◌, nat_lt, if◌then◌else◌, true, false, List, [], ◌∷◌, length, slice_index, Option, Some, None, ⊤}
 use mathlib.Core.Option.{some}
 use lib.ListN.{get_elem?}
@@ -8,7 +8,7 @@ use Rattle.qws_base.specs.Points.{pixel_count}
 use Rattle.qws_base.specs.Colours.{IsSceneColour}
 use Rattle.qws_base.specs.Scenes.{Setting}
 use Rattle.qws_base.specs.declared.replies.PaintReply.TheVariants.{Gone}
-use Rattle.region_table.specs.Numbers.{IsTableWord}
+use Rattle.region_table.specs.Numbers.{gate_at, IsTableWord, first_pixel, IsLineWord}
 use Rattle.fb_words.specs.declared.known.StepCall.{StepCall}
 use Rattle.fb_words.specs.declared.known.PaintCall.{PaintCall}
 use Rattle.fb_words.specs.declared.known.KeptClip.{KeptClip}
@@ -20,15 +20,16 @@ use Rattle.fb_words.specs.declared.known.Client.{Client}
 use Rattle.fb_words.specs.declared.known.Closed.{Closed}
 use Rattle.fb_words.specs.declared.known.Server.{Server}
 use Rattle.fb_words.specs.declared.known.View.{View}
-use Rattle.fb_words.specs.Tables.{first_pixel, opening_table, table_of, IsLineWord, IsTable, Follows}
-use Rattle.fb_words.specs.Carries.{CarriesStep, CarriesPaintUnder, RepliesUnder}
+use Rattle.turn_logs.specs.Tables.{opening_table, table_of, IsTable, Follows}
+use Rattle.turn_logs.specs.Carries.{CarriesStep, CarriesPaintUnder, RepliesUnder}
 use Rattle.fb_words.specs.Segments.{line, LineOk, PicksOk}
 use Rattle.fb_words.specs.Rights.{LogIn}
 use Rattle.fb_words.specs.Clips.{IsClip, LooksTrue}
-use Rattle.fb_words.specs.Views.{total, is_client, busy, reading, shut, is_writing, steps_in, opening_server}
+use Rattle.turn_logs.specs.Lists.{total}
+use Rattle.fb_words.specs.Views.{is_client, busy, reading, shut, is_writing, steps_in, opening_server}
 
 -- all parts together, wherever they sit: client c stands at place c
-pub record World : Type 0 where
+pub record Parts : Type 0 where
   pub server : Server
   pub clients : List Client
 
@@ -48,8 +49,8 @@ abbrev pub IsServer : Option Server → Server → Type 0
 IsServer (Some s) t = s ≡ t
 IsServer None t = Unit {0}
 
--- the views hold each part of the world once
-pub record Spread (views : List View) (w : World) : Type 0 where
+-- the views hold each part once
+pub record Spread (views : List View) (w : Parts) : Type 0 where
   pub one_server : total servers_in views ≡ 1
   pub one_client : (c : ℕ) → total (clients_in c) views ≡ (if nat_lt c (length w.clients) then 1 else 0)
   pub server_is : (id : ℕ) (v : View) → get_elem? views id ≡ some v → IsServer v.server w.server
@@ -94,15 +95,11 @@ abbrev pub steps_of : ℕ → ℕ → List Closed → List StepCall
 steps_of c n [] = []
 steps_of c n (t ∷ ts) = if t.client == c then step_call (n + 1) t ∷ steps_of c (n + 1) ts else steps_of c (n + 1) ts
 
--- closed tables, and the table words: those of the last closed table, or in a server turn its present ones
-pub record TablesOk (size : Sides) (words : List ℕ) (s : Server) : Type 0 where
+-- the table words: those of the last closed table, or in a server turn its present ones
+pub record TablesOk (words : List ℕ) (s : Server) : Type 0 where
   pub wide : length s.present ≡ first_pixel
   pub shown : (i : ℕ) → IsTableWord i → slice_index words i ≡ slice_index s.present i
-  pub long : length s.tables ≡ length s.closed + 1
-  pub first : get_elem? s.tables 0 ≡ some opening_table
   pub last : is_writing s.mode ≡ false → get_elem? s.tables (length s.closed) ≡ some s.present
-  pub well : (e : ℕ) (t : List ℕ) → get_elem? s.tables e ≡ some t → IsTable size (length s.limits) e t
-  pub next : (e : ℕ) (t u : List ℕ) → get_elem? s.tables e ≡ some t → get_elem? s.tables (e + 1) ≡ some u → Follows t u
 
 -- kept clips
 abbrev pub ClipsOk : Sides → Server → ℕ → Client → Type 0
@@ -142,55 +139,65 @@ abbrev pub CallOk : Setting → List (List ℕ) → ℕ → Call → Type 0
 CallOk setting tables c (Step s) = ⊤
 CallOk setting tables c (Paint p) = (t : List ℕ) → get_elem? tables p.stamp ≡ some t → PaintOk setting t c p
 
-abbrev pub PaintsOk : Setting → Server → ℕ → Client → Type 0
-PaintsOk setting s c p = (k : ℕ) (a : Call) → get_elem? p.own k ≡ some a → CallOk setting s.tables c a
+abbrev pub PaintsOk : Setting → List (List ℕ) → ℕ → Client → Type 0
+PaintsOk setting tables c p = (k : ℕ) (a : Call) → get_elem? p.own k ≡ some a → CallOk setting tables c a
 
 -- carried turns of the server: the log of each carries its step from the table before it to the one that it left
-abbrev pub StepsOk : Setting → Server → Type 0
-StepsOk setting s = (e : ℕ) (turn : Closed) (t u : List ℕ) → get_elem? s.closed e ≡ some turn → get_elem? s.tables e ≡ some t → get_elem? s.tables (e + 1) ≡ some u
+abbrev pub StepsOk : Setting → List Closed → List (List ℕ) → Type 0
+StepsOk setting closed tables = (e : ℕ) (turn : Closed) (t u : List ℕ) → get_elem? closed e ≡ some turn → get_elem? tables e ≡ some t → get_elem? tables (e + 1) ≡ some u
     → CarriesStep setting (table_of t) (table_of u) turn.command turn.reply turn.log
+
+-- what is said of all closed turns, of the tables that they left, and of the calls of the clients
+pub record ClosedOk (setting : Setting) (limits : List ℕ) (closed : List Closed) (tables : List (List ℕ)) (cs : List Client) : Type 0 where
+  -- closed tables: one for each turn besides the opening one
+  pub long : length tables ≡ length closed + 1
+  pub first : get_elem? tables 0 ≡ some opening_table
+  pub well : (e : ℕ) (t : List ℕ) → get_elem? tables e ≡ some t → IsTable setting.size (length limits) e t
+  pub next : (e : ℕ) (t u : List ℕ) → get_elem? tables e ≡ some t → get_elem? tables (e + 1) ≡ some u → Follows t u
+  -- the order of own calls
+  pub order : (c : ℕ) (p : Client) → get_elem? cs c ≡ some p → OrderOk (length closed) p
+  -- own steps
+  pub own_steps : (c : ℕ) (p : Client) → get_elem? cs c ≡ some p → steps_in p.own ≡ steps_of c 0 closed
+  pub named : (k : ℕ) (t : Closed) → get_elem? closed k ≡ some t → t.client < length limits
+  -- rights of a paint, and carried turns
+  pub paints : (c : ℕ) (p : Client) → get_elem? cs c ≡ some p → PaintsOk setting tables c p
+  pub steps : StepsOk setting closed tables
 
 -- line values
 abbrev pub LinesOk : Setting → List ℕ → Server → List Client → Type 0
 LinesOk setting words s cs = (x : ℕ) → IsLineWord x → x < length words → LineOk setting x (slice_index words x) (line x s cs)
 
--- the words fit the world
-pub record Fits (key : Setting) (words : List ℕ) (w : World) : Type 0 where
+-- the words fit the parts
+pub record Fits (key : Setting) (words : List ℕ) (w : Parts) : Type 0 where
   -- the setting
   pub setting : SettingOk key words w.server
   -- the gate word
-  pub gate : slice_index words 0 ≡ shut w.server.mode + total busy w.clients
+  pub gate : slice_index words gate_at ≡ shut w.server.mode + total busy w.clients
   -- exclusion
   pub apart : is_writing w.server.mode ≡ true → total reading w.clients ≡ 0
   -- seats
   pub as_many : length w.server.limits ≡ length w.clients
   pub few : length w.clients ≤ 16
   pub seats : (c : ℕ) (p : Client) → get_elem? w.clients c ≡ some p → SeatOk key w.server c p
-  -- the order of own calls
-  pub order : (c : ℕ) (p : Client) → get_elem? w.clients c ≡ some p → OrderOk (length w.server.closed) p
-  -- own steps
-  pub own_steps : (c : ℕ) (p : Client) → get_elem? w.clients c ≡ some p → steps_in p.own ≡ steps_of c 0 w.server.closed
-  pub named : (k : ℕ) (t : Closed) → get_elem? w.server.closed k ≡ some t → t.client < length w.server.limits
-  -- closed tables
-  pub tables : TablesOk key.size words w.server
+  -- closed turns
+  pub closed : ClosedOk key w.server.limits w.server.closed w.server.tables w.clients
+  -- table words
+  pub tables : TablesOk words w.server
   -- kept clips
   pub clips : (c : ℕ) (p : Client) → get_elem? w.clients c ≡ some p → ClipsOk key.size w.server c p
   -- looked words
   pub looks : (c : ℕ) (p : Client) → get_elem? w.clients c ≡ some p → LooksOk words (length w.server.closed) p.mode
   -- rights of a paint
   pub rights : (c : ℕ) (p : Client) → get_elem? w.clients c ≡ some p → OpenRights key.size w.server.present c p.mode
-  -- rights of a paint, and carried turns
-  pub paints : (c : ℕ) (p : Client) → get_elem? w.clients c ≡ some p → PaintsOk key w.server c p
-  pub steps : StepsOk key w.server
   -- line values
   pub quiet : is_writing w.server.mode ≡ false → w.server.log ≡ []
   pub lines : LinesOk key words w.server w.clients
   pub picks : PicksOk key w.server w.clients
 
 pub record Holds (key : Setting) (s : State (Unit {0}) View) : Type 0 where
-  pub world : World
-  pub spread : Spread s.views world
-  pub fits : Fits key s.words world
+  pub parts : Parts
+  pub spread : Spread s.views parts
+  pub fits : Fits key s.words parts
 
 abbrev pub opening_view : Setting → View
 opening_view setting = record { server = Some (opening_server setting); clients = [] }

@@ -1,8 +1,9 @@
 -- The line of a word: what the turns have read and written there, one after the other.
 use Rattle.std.specs.Prelude.{◌≡◌, ℕ, zero, suc, ◌==◌, nat_lt, if◌then◌else◌, List, [], ◌∷◌, ◌++◌, map, length, Some, None}
+use Rattle.std.specs.List.{flat_map}
 use Rattle.qws_base.specs.Colours.{IsSceneColour}
 use Rattle.qws_base.specs.Scenes.{Setting}
-use Rattle.fb_words.specs.declared.known.Item.{Item}
+use Rattle.turn_logs.specs.declared.items.Item.{Item}
 use Rattle.fb_words.specs.declared.known.Call.{Call}
 use Rattle.fb_words.specs.declared.known.Call.TheVariants.{Step, Paint}
 use Rattle.fb_words.specs.declared.known.Mode.{Mode}
@@ -10,18 +11,9 @@ use Rattle.fb_words.specs.declared.known.Mode.TheVariants.{Idle, Refused, Readin
 use Rattle.fb_words.specs.declared.known.Client.{Client}
 use Rattle.fb_words.specs.declared.known.Closed.{Closed}
 use Rattle.fb_words.specs.declared.known.Server.{Server}
-use Rattle.fb_words.specs.Tables.{first_pixel}
-use Rattle.fb_words.specs.Lines.{on, written, Shows}
-
--- f of each, one after the other
-abbrev pub joined : {A B : Type 0} → (A → List B) → List A → List B
-joined f [] = []
-joined f (a ∷ l) = f a ++ joined f l
-
--- f of 0 to n, one after the other
-abbrev pub upto : {B : Type 0} → (ℕ → List B) → ℕ → List B
-upto f zero = f 0
-upto f (suc n) = upto f n ++ f (suc n)
+use Rattle.region_table.specs.Numbers.{first_pixel}
+use Rattle.turn_logs.specs.Lists.{upto}
+use Rattle.turn_logs.specs.Lines.{on, written, Shows}
 
 -- a client's items at stamp e: those of its closed turns, then those of its open turn
 abbrev pub call_items : ℕ → Call → List Item
@@ -35,7 +27,7 @@ open_items e (Reading None slot looked log) = []
 open_items e (Reading (Some t) slot looked log) = if t == e then log else []
 
 abbrev pub client_items : ℕ → Client → List Item
-client_items e p = joined (call_items e) p.own ++ open_items e p.mode
+client_items e p = flat_map (call_items e) p.own ++ open_items e p.mode
 
 -- the server's items at number e; there is no server turn 0, and the open turn has the next number
 abbrev pub nth_log : List (List Item) → ℕ → List Item
@@ -52,7 +44,7 @@ server_items s (suc k) = nth_log (map turn_log s.closed ++ s.log ∷ []) k
 
 -- the items on word x at number e: the server's, then the clients' by their numbers
 abbrev pub segment : ℕ → Server → List Client → ℕ → List Item
-segment x s cs e = on x (server_items s e) ++ joined (λ p. on x (client_items e p)) cs
+segment x s cs e = on x (server_items s e) ++ flat_map (λ p. on x (client_items e p)) cs
 
 -- the line of word x
 abbrev pub line : ℕ → Server → List Client → List Item

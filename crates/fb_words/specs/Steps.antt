@@ -1,9 +1,9 @@
 -- What each step tells its seat, and what it changes there.
 use Rattle.std.specs.List.{range_with_len}
 use Rattle.qws_base.specs.Colours.{IsSceneColour}
-use Rattle.fb_words.specs.Lines.{written}
+use Rattle.turn_logs.specs.Lines.{on, written, Shows}
 use Rattle.fb_words.specs.Segments.{line, first_value, PicksOk}
-use Rattle.fb_words.specs.Carries.{CarriesStep, CarriesPaintUnder, RepliesUnder}
+use Rattle.turn_logs.specs.Carries.{CarriesStep, CarriesPaintUnder, RepliesUnder}
 use Rattle.std.specs.Prelude.{◌≡◌, ℕ, ◌<◌, ◌≤◌, ◌==◌, nat_lt, if◌then◌else◌, List, [], ◌∷◌, ◌++◌, map, length, None, ◌+◌, Option, Some, pos, slice_index, slice_set}
 use mathlib.Core.Option.{some}
 use lib.ListN.{get_elem?}
@@ -14,11 +14,11 @@ use Rattle.qws_base.specs.declared.replies.PaintReply.TheVariants.{Gone}
 use Rattle.qws_base.specs.declared.journals.JournalEntry.{JournalEntry}
 use Rattle.qws_base.specs.declared.journals.BookEntry.{BookEntry}
 use Rattle.qws_base.specs.Sheets.{Sheet}
-use Rattle.region_table.specs.Numbers.{IsTableWord}
+use Rattle.region_table.specs.Numbers.{stamp_at, closed_gate, IsTableWord, first_pixel, is_table_word, revision_of_slot, IsLineWord}
 use Rattle.qws_base.specs.Books.{BookView}
 use Rattle.qws_base.specs.Scenes.{Setting}
-use Rattle.fb_words.specs.declared.known.Item.{Item}
-use Rattle.fb_words.specs.declared.known.Item.TheVariants.{Pick, Put}
+use Rattle.turn_logs.specs.declared.items.Item.{Item}
+use Rattle.turn_logs.specs.declared.items.Item.TheVariants.{Pick, Put}
 use Rattle.fb_words.specs.declared.known.Mode.{Mode}
 use Rattle.fb_words.specs.declared.known.Mode.TheVariants.{Idle, Refused, Reading}
 use Rattle.fb_words.specs.declared.known.ServerMode.TheVariants.{Resting, Closing, Writing}
@@ -29,10 +29,11 @@ use Rattle.fb_words.specs.declared.known.Client.{Client}
 use Rattle.fb_words.specs.declared.known.Closed.{Closed}
 use Rattle.fb_words.specs.declared.known.Server.{Server}
 use Rattle.fb_words.specs.declared.known.View.{View}
-use Rattle.fb_words.specs.Tables.{first_pixel, is_table_word, revision_of_slot, IsTable, Follows, opening_table, table_of, IsLineWord}
+use Rattle.turn_logs.specs.Tables.{IsTable, Follows, table_of}
 use Rattle.fb_words.specs.Clips.{stamp_in, slot_in, log_in, looked_in, row_seen, with_row, Sees}
-use Rattle.fb_words.specs.Views.{total, is_client, steps_in, books_in, alone, only, head_view, the_server, client_of}
-use Rattle.fb_words.specs.Rule.{steps_of, OrderOk, ClipsOk, PaintsOk, StepsOk}
+use Rattle.turn_logs.specs.Lists.{total}
+use Rattle.fb_words.specs.Views.{is_client, steps_in, books_in, alone, only, head_view, the_server, client_of, without}
+use Rattle.fb_words.specs.Rule.{steps_of, OrderOk, ClipsOk, PaintsOk, ClosedOk}
 
 abbrev pub Empty : Type 0
 Empty = Unit {0}
@@ -42,8 +43,8 @@ Empty = Unit {0}
 -- an enter that found n: the client is let in where n is below 2^32, and else refused
 abbrev pub after_enter : Client → ℕ → Client
 after_enter p n = record p {
-  mode = (if nat_lt n 4294967296 then Reading None None [] [] else Refused);
-  turned = (if nat_lt n 4294967296 then p.turned else p.turned ++ n ∷ []);
+  mode = (if nat_lt n closed_gate then Reading None None [] [] else Refused);
+  turned = (if nat_lt n closed_gate then p.turned else p.turned ++ n ∷ []);
 }
 
 abbrev pub entered : Step Empty → Me Empty View → ℕ → Me Empty View → Type 0
@@ -65,14 +66,14 @@ abbrev pub looked_mode : ℕ → ℕ → Mode → Mode
 looked_mode i n Idle = Idle
 looked_mode i n Refused = Refused
 looked_mode i n (Reading stamp slot looked log) =
-    Reading (or_first stamp (if i == 1 then Some n else None)) (or_first slot (revision_of_slot i)) (looked ++ record { word = i; value = n } ∷ []) log
+    Reading (or_first stamp (if i == stamp_at then Some n else None)) (or_first slot (revision_of_slot i)) (looked ++ record { word = i; value = n } ∷ []) log
 
 abbrev pub after_look : Client → ℕ → ℕ → Client
 after_look p i n = record p { mode = looked_mode i n p.mode }
 
 -- a looked stamp is the turn's
 abbrev pub IsTurnStamp : Client → ℕ → ℕ → Type 0
-IsTurnStamp p i n = i ≡ 1 → stamp_in p.mode ≡ Some n
+IsTurnStamp p i n = i ≡ stamp_at → stamp_in p.mode ≡ Some n
 
 abbrev pub looked_at : Step Empty → Me Empty View → ℕ → Me Empty View → Type 0
 looked_at st me n me' = let q = after_look (only me.0.clients) st.word n in (me' ≡ (alone q, [])) × Sees q × IsTurnStamp q st.word n
@@ -127,7 +128,7 @@ pub record Sits (s : Server) (p : Client) : Type 0 where
   pub own_steps : steps_in p.own ≡ steps_of p.number 0 s.closed
   pub order : OrderOk (length s.closed) p
   pub clips : ClipsOk s.setting.size s p.number p
-  pub paints : PaintsOk s.setting s p.number p
+  pub paints : PaintsOk s.setting s.tables p.number p
 
 abbrev pub AllSit : Server → List Client → Type 0
 AllSit s ps = (k : ℕ) (p : Client) → get_elem? ps k ≡ some p → Sits s p
@@ -135,6 +136,10 @@ AllSit s ps = (k : ℕ) (p : Client) → get_elem? ps k ≡ some p → Sits s p
 -- no client sits twice
 abbrev pub SitOnce : List Client → Type 0
 SitOnce ps = (c : ℕ) → total (is_client c) ps ≤ 1
+
+-- no client that sits is in a turn
+abbrev pub AllIdle : List Client → Type 0
+AllIdle ps = (k : ℕ) (p : Client) → get_elem? ps k ≡ some p → p.mode ≡ Idle
 
 -- each admitted client sits
 abbrev pub AllHere : Server → List Client → Type 0
@@ -145,11 +150,11 @@ after_announce s = record s { mode = Closing }
 
 -- it found less than 2^32
 abbrev pub announced : Step Empty → Me Empty View → ℕ → Me Empty View → Type 0
-announced st me n me' = (me' ≡ (head_view (after_announce (the_server me.0)) me.0.clients, [])) × (n < 4294967296)
+announced st me n me' = (me' ≡ (head_view (after_announce (the_server me.0)) me.0.clients, [])) × (n < closed_gate)
 
 -- a settle that found n: the turn is open where n is 2^32
 abbrev pub after_settle : Server → ℕ → Server
-after_settle s n = record s { mode = (if n == 4294967296 then Writing else Closing); turned = (if n == 4294967296 then s.turned else s.turned ++ n ∷ []) }
+after_settle s n = record s { mode = (if n == closed_gate then Writing else Closing); turned = (if n == closed_gate then s.turned else s.turned ++ n ∷ []) }
 
 -- the clients that sit, by number, where all n sit
 abbrev pub arranged : ℕ → List Client → List Client
@@ -162,19 +167,10 @@ pub record IsBetweenTurns (s : Server) : Type 0 where
   pub wide : length s.present ≡ first_pixel
   pub is_table : IsTable s.setting.size (length s.limits) (length s.closed) s.present
 
--- What is known of all closed turns where all admitted clients sit: the tables, the clients' own calls in their order, that
--- each turn carries its entry, and that each Pick shows the last Put before it.
-pub record Knows (s : Server) (cs : List Client) : Type 0 where
-  pub long : length s.tables ≡ length s.closed + 1
-  pub first : get_elem? s.tables 0 ≡ some opening_table
-  pub well : (e : ℕ) (t : List ℕ) → get_elem? s.tables e ≡ some t → IsTable s.setting.size (length s.limits) e t
-  pub next : (e : ℕ) (t u : List ℕ) → get_elem? s.tables e ≡ some t → get_elem? s.tables (e + 1) ≡ some u → Follows t u
-  pub named : (k : ℕ) (t : Closed) → get_elem? s.closed k ≡ some t → t.client < length s.limits
-  pub order : (c : ℕ) (p : Client) → get_elem? cs c ≡ some p → OrderOk (length s.closed) p
-  pub own_steps : (c : ℕ) (p : Client) → get_elem? cs c ≡ some p → steps_in p.own ≡ steps_of c 0 s.closed
-  pub paints : (c : ℕ) (p : Client) → get_elem? cs c ≡ some p → PaintsOk s.setting s c p
-  pub steps : StepsOk s.setting s
-  pub picks : PicksOk s.setting s cs
+-- What is known of all closed turns where all admitted clients sit: what the rule says of them, and that each Pick shows the
+-- last Put before it. It doesn't depend on the server's mode.
+abbrev pub Knows : Server → List Client → Type 0
+Knows s cs = ClosedOk s.setting s.limits s.closed s.tables cs × PicksOk s.setting s cs
 
 -- a load that changes nothing; where all admitted clients sit, all closed turns are known
 abbrev pub told : Step Empty → Me Empty View → ℕ → Me Empty View → Type 0
@@ -185,7 +181,7 @@ told st me n me' = let s = the_server me.0 in let ps = me.0.clients in
 -- closed turns are known
 abbrev pub settled : Step Empty → Me Empty View → ℕ → Me Empty View → Type 0
 settled st me n me' = let s = the_server me.0 in let ps = me.0.clients in
-    (me' ≡ (head_view (after_settle s n) ps, [])) × (AllHere s ps → n ≡ 4294967296) × (AllHere s ps → Knows s (arranged (length s.limits) ps)) × IsBetweenTurns s
+    (me' ≡ (head_view (after_settle s n) ps, [])) × (AllHere s ps → n ≡ closed_gate) × (AllHere s ps → Knows s (arranged (length s.limits) ps)) × IsBetweenTurns s
 
 -- a read of word i that found n, and a write of word i
 abbrev pub after_read : Server → ℕ → ℕ → Server
@@ -197,6 +193,7 @@ pub record ReadTells (s : Server) (ps : List Client) (x n : ℕ) : Type 0 where
   pub present : IsTableWord x → n ≡ slice_index s.present x
   pub colour : IsLineWord x → IsSceneColour s.setting.depth n
   pub written_is : IsLineWord x → AllHere s ps → n ≡ written (first_value s.setting x) (line x s (arranged (length s.limits) ps))
+  pub own_log : IsLineWord x → (v : ℕ) × Shows v (on x s.log) × (n ≡ written v (on x s.log)) × (AllHere s ps → v ≡ written (first_value s.setting x) (line x record s { log = [] } (arranged (length s.limits) ps)))
 
 abbrev pub was_read : Step Empty → Me Empty View → ℕ → Me Empty View → Type 0
 was_read st me n me' = let s = the_server me.0 in
@@ -257,3 +254,9 @@ with_limit s limit = record s { limits = s.limits ++ limit ∷ [] }
 pub record SitsAs (stub : BookView) (ps : List Client) : Type 0 where
   pub here : 1 ≤ total (is_client stub.client) ps
   pub book : stub.entries ≡ books_in (client_of stub.client ps).own
+
+-- the stub of a client that sits down sits; those that sat stay so, also where another client rises
+pub record StubLaw : Type 0 where
+  pub sits : (ps : List Client) (p : Client) (stub : BookView) → SitOnce (ps ++ p ∷ []) → stub.client ≡ p.number → stub.entries ≡ books_in p.own → SitsAs stub (ps ++ p ∷ []) × (client_of stub.client (ps ++ p ∷ []) ≡ p)
+  pub stays : (ps : List Client) (p : Client) (stub : BookView) → SitsAs stub ps → SitsAs stub (ps ++ p ∷ []) × (client_of stub.client (ps ++ p ∷ []) ≡ client_of stub.client ps)
+  pub rises : (ps : List Client) (c : ℕ) (stub : BookView) → (stub.client ≡ c → ⊥) → SitsAs stub ps → SitsAs stub (without c ps) × (client_of stub.client (without c ps) ≡ client_of stub.client ps)

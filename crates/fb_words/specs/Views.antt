@@ -1,8 +1,9 @@
 -- The parts that seats hold, and what contracts see of tokens.
-use Rattle.std.specs.Prelude.{◌≡◌, ℕ, ◌+◌, ◌<◌, ◌==◌, if◌then◌else◌, Bool, true, false, List, [], ◌∷◌, ◌++◌, Option, Some, None, slice_index}
+use Rattle.std.specs.Prelude.{◌≡◌, ℕ, ◌<◌, ◌==◌, if◌then◌else◌, Bool, true, false, List, [], ◌∷◌, ◌++◌, Option, Some, None, slice_index}
 use mathlib.Core.Option.{some}
 use lib.ListN.{get_elem?}
 use Rattle.atomic_table.specs.Seated.{TableId}
+use Rattle.region_table.specs.Numbers.{closed_gate}
 use Rattle.qws_base.specs.Scenes.{Setting}
 use Rattle.qws_base.specs.declared.colours.Depth.TheVariants.{Full}
 use Rattle.qws_base.specs.declared.journals.BookEntry.{BookEntry}
@@ -17,12 +18,7 @@ use Rattle.fb_words.specs.declared.known.Call.TheVariants.{Step, Paint}
 use Rattle.fb_words.specs.declared.known.Client.{Client}
 use Rattle.fb_words.specs.declared.known.Server.{Server}
 use Rattle.fb_words.specs.declared.known.View.{View}
-use Rattle.fb_words.specs.Tables.{opening_table}
-
--- f of each item, added up
-abbrev pub total : {A : Type 0} → (A → ℕ) → List A → ℕ
-total f [] = 0
-total f (x ∷ xs) = f x + total f xs
+use Rattle.turn_logs.specs.Tables.{opening_table}
 
 -- 1 for the client with that number
 abbrev pub is_client : ℕ → Client → ℕ
@@ -51,8 +47,8 @@ reading p = reading_mode p.mode
 -- the gate word, but for the painters
 abbrev pub shut : ServerMode → ℕ
 shut Resting = 0
-shut Closing = 4294967296
-shut Writing = 4294967296
+shut Closing = closed_gate
+shut Writing = closed_gate
 
 abbrev pub is_writing : ServerMode → Bool
 is_writing Resting = false

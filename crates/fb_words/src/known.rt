@@ -2,6 +2,7 @@
 use qws_base::{Command, Depth, Ink, PaintReply, Rect, Reply, Rgb, Size};
 use std::collections::LinkedList;
 use std::marker::Model;
+use turn_logs::Item;
 
 /// The screen that a part belongs to: its size, its depth, and its backdrop as a scene colour.
 #[derive(Clone, Copy, Drop)]
@@ -33,12 +34,6 @@ impl Model for PaintSheet {
     ghost Value = { Sheet };
 
     ghost view = { λ s. record { reach = s.reach; inks = s.inks } };
-}
-
-/// A framebuffer word or a saved word was read, or written.
-pub enum Item {
-    Pick { word: u64, value: u64 },
-    Put { word: u64, value: u64 },
 }
 
 /// A table word that was looked at.

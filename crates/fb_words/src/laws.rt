@@ -1,32 +1,14 @@
-//! The law of carrying, and those of kept clips and owned words. Each function does nothing; its clause is the law.
-ghost use Rattle.fb_words.specs.Carries.{StepLaw, PaintLaw};
-ghost use Rattle.fb_words.specs.Sessions.{SessionLaw, PictureLaw};
-ghost use Rattle.fb_words.specs.Clips.{KeptLaw};
+//! Laws of kept clips, owned words and looked rows, of the server's log, and of whole sessions. Each function does nothing;
+//! its clause is the law.
+ghost use Rattle.fb_words.specs.Clips.{KeptLaw, LookedLaw, RowLaw};
 ghost use Rattle.fb_words.specs.Rights.{OwnedLaw};
+ghost use Rattle.fb_words.specs.Looks.{LooksLaw, GoingLaw};
+ghost use Rattle.fb_words.specs.ServerLogs.{LogLaw, ReadingLaw};
+ghost use Rattle.fb_words.specs.Steps.{StubLaw};
+ghost use Rattle.fb_words.specs.Desks.{KeepingLaw, WholeLaw};
 
-/// Where words stand for a scene that is the backdrop outside all rows, the words after a log that carries a step stand
-/// for the scene after the step.
-pub fn steps_are_carried()
-    ensures { StepLaw }
-{}
-
-/// Where words stand for a scene, the words after a log that carries a paint with its reply stand for the scene after the
-/// paint.
-pub fn paints_are_carried()
-    ensures { PaintLaw }
-{}
-
-/// Where turns follow each other, each carrying its entry, their entries are a legal history, and the words after all
-/// their logs stand for the scene after it.
-pub fn sessions_are_carried()
-    ensures { SessionLaw }
-{}
-
-/// The words that a screen opens with are those of the opening world. Where words are those of a world, the colours of
-/// their framebuffer words are its shown picture.
-pub fn pictures_are_shown()
-    ensures { PictureLaw }
-{}
+use qws_base::windows_stay_arranged;
+use turn_logs::{pictures_are_shown, sessions_are_carried};
 
 /// What a client keeps for a slot is a clip of that slot. Its rectangles are at most 256, on the screen and disjoint; its
 /// revision is at most that of the slot's row in the table that the client sees; and where the two are equal, it is that row,
@@ -39,4 +21,54 @@ pub fn kept_clips_are_judged()
 /// kept clip's slot, or the saved word of a shown cell over such a pixel.
 pub fn owned_words_are_given()
     ensures { OwnedLaw }
+{}
+
+/// What a desk keeps of each closed turn is kept before the first one, and by each turn that is kept.
+pub fn closed_turns_are_kept()
+    ensures { KeepingLaw }
+{
+    windows_stay_arranged();
+}
+
+/// Where all admitted clients sit between turns, and a desk has kept the closed turns, the merge of the journal with the
+/// clients' paints is a legal history, it leads to the state after all closed turns, and its picture is shown in the words.
+pub fn sessions_are_whole()
+    ensures { WholeLaw }
+{
+    sessions_are_carried();
+    pictures_are_shown();
+}
+
+/// A turn of the server that only reads finds what all closed turns have written.
+pub fn reads_find_what_was_written()
+    ensures { ReadingLaw }
+{}
+
+/// The log of a turn of the server is true at first, and after each read and each write.
+pub fn logs_stay_true()
+    ensures { LogLaw }
+{}
+
+/// Looks of one word after another are those of all. The looked words spell a row exactly where each of its words was looked at
+/// and the client owns it.
+pub fn rows_are_spelled()
+    ensures { LookedLaw }
+{}
+
+/// Looks at table words one after another, alone and with reads and writes of pixels between them: what was looked at and
+/// owned stays, nothing but those words is looked at, and what is kept for a slot changes only where they are of its row.
+pub fn looks_go_on()
+    ensures looks { LooksLaw }
+    ensures items { GoingLaw }
+{}
+
+/// Looked words are the table's. A row that they spell whole is judged by the table and has its row's revision; and a kept
+/// clip with the row's revision is the row of its slot, whose pixels its rectangles have.
+pub fn kept_clips_are_rows()
+    ensures { RowLaw }
+{}
+
+/// The stub of a client that sits down sits with the head. Stubs that sit stay so where another client sits down or rises.
+pub fn stubs_stay_seated()
+    ensures { StubLaw }
 {}

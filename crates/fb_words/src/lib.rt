@@ -11,12 +11,13 @@ mod server_steps;
 mod tokens;
 
 pub use known::{
-    Call, Client, Closed, Item, KeptClip, Looked, Mode, PaintCall, PaintSheet, ScreenSetting,
-    Server, ServerMode, StepCall, View,
+    Call, Client, Closed, KeptClip, Looked, Mode, PaintCall, PaintSheet, ScreenSetting, Server,
+    ServerMode, StepCall, View,
 };
 pub use laws::{
-    kept_clips_are_judged, owned_words_are_given, paints_are_carried, pictures_are_shown,
-    sessions_are_carried, steps_are_carried,
+    closed_turns_are_kept, kept_clips_are_judged, kept_clips_are_rows, logs_stay_true, looks_go_on,
+    owned_words_are_given, reads_find_what_was_written, rows_are_spelled, sessions_are_whole,
+    stubs_stay_seated,
 };
 pub use screen::{Screen, WordRule};
 pub use tokens::{Head, Pass, Stub};

@@ -28,7 +28,7 @@ impl Model for Screen {
     ghost use Rattle.std.specs.Prelude.{◌≡◌, ◌+◌};
     ghost use Rattle.qws_base.specs.Points.{pixel_count};
     ghost use Rattle.fb_words.specs.Views.{ScreenView};
-    ghost use Rattle.fb_words.specs.Tables.{first_pixel};
+    ghost use Rattle.region_table.specs.Numbers.{first_pixel};
 
     ghost Value = { ScreenView };
 

@@ -6,9 +6,11 @@ ghost use Rattle.qws_base.specs.Points.{pixel_count};
 ghost use Rattle.qws_base.specs.Colours.{IsSceneColour};
 ghost use Rattle.fb_words.specs.declared.known.Mode.TheVariants.{Idle};
 ghost use Rattle.region_table.specs.Opening.{opening_word};
-ghost use Rattle.fb_words.specs.Tables.{first_pixel, opening_words};
-ghost use Rattle.fb_words.specs.Views.{opening_server, total, is_client, books_in, without, client_of};
-ghost use Rattle.fb_words.specs.Steps.{with_limit, fresh, AllSit, SitOnce, AllHere, Knows, arranged, SitsAs};
+ghost use Rattle.turn_logs.specs.Tables.{opening_words};
+ghost use Rattle.region_table.specs.Numbers.{first_pixel};
+ghost use Rattle.fb_words.specs.Views.{opening_server, is_client, books_in, without, client_of};
+ghost use Rattle.turn_logs.specs.Lists.{total};
+ghost use Rattle.fb_words.specs.Steps.{with_limit, fresh, AllSit, SitOnce, AllIdle, AllHere, Knows, arranged, SitsAs};
 
 use crate::known::ScreenSetting;
 use crate::plays::{Admits, Number, Rises, Sits, Tells};
@@ -16,14 +18,9 @@ use crate::screen::Screen;
 use crate::tokens::{Head, Pass, Stub};
 use atomic_table::Table;
 use qws_base::{Book, Depth, OutOfMemory, Rgb, Size, narrow};
+use region_table::{FIRST_PIXEL, FIRST_ROW, GATE, ROW_SIZE};
 use std::alloc::Global;
 use std::marker::Brand;
-
-// The first framebuffer word.
-const FIRST_PIXEL: usize = 10_632;
-
-// The first word of the row of slot 0.
-const FIRST_ROW: usize = 2_052;
 
 // The word of the origin (0, 0).
 const ORIGIN: u64 = 2_147_516_416;
@@ -32,10 +29,10 @@ const ORIGIN: u64 = 2_147_516_416;
 fn opening_word(index: usize) -> u64
     ensures { result ≡ opening_word index }
 {
-    if index < FIRST_ROW {
+    if index < FIRST_ROW as usize {
         return 0;
     }
-    match (index - FIRST_ROW) % 260 {
+    match (index - FIRST_ROW as usize) % ROW_SIZE as usize {
         1 => 1,
         2 => ORIGIN,
         _ => 0,
@@ -101,7 +98,7 @@ impl Screen {
         let pixels = size.w() as usize * size.h() as usize;
         let words = opening_screen(
             alloc,
-            FIRST_PIXEL,
+            FIRST_PIXEL as usize,
             pixels,
             u64::from(setting.backdrop.value()),
         )?;
@@ -154,19 +151,23 @@ impl Screen {
 
     /// The client's part sits with the head. One load of the gate word, which changes nothing, tells what the rule says of the
     /// clients that sit: their step limits, their own steps among the closed turns, the order of their calls, their kept clips,
-    /// and that none sits twice. Where all admitted clients sit then, all closed turns are known.
+    /// and that none sits twice. None that sits is in a turn. Where all admitted clients sit then, all closed turns are known.
     pub fn sit(&self, head: &mut Head, pass: Pass) -> Stub
         requires screens { (head.old.screen ≡ self.now) × (pass.screen ≡ self.now) }
         requires idle { pass.client.mode ≡ Idle }
         ensures head { head.new ≡ record head.old { sitting = head.old.sitting ++ pass.client ∷ [] } }
         ensures known { AllSit head.new.server head.new.sitting }
         ensures once { SitOnce head.new.sitting }
+        ensures all_idle { AllIdle head.new.sitting }
+        ensures whole { length head.new.sitting ≡ length head.new.server.limits → AllHere head.new.server head.new.sitting }
         ensures all { AllHere head.new.server head.new.sitting → Knows head.new.server (arranged (length head.new.server.limits) head.new.sitting) }
         ensures stub { result ≡ record { client = pass.client.number; limit = pass.book_limit; entries = books_in pass.client.own } }
     {
         let Pass { book, seen, seat } = pass;
         self.table.shared.join_seat::<Sits>(&mut head.seat, seat);
-        self.table.shared.load::<Tells>(&mut head.seat, 0);
+        self.table
+            .shared
+            .load::<Tells>(&mut head.seat, GATE as usize);
         head.seen[book.client() as usize] = seen;
         Stub { book }
     }

@@ -2,19 +2,20 @@
 ghost use Rattle.std.specs.Prelude.{◌≡◌, ◌+◌, ◌<◌, ◌≤◌, ◌^◌, length, map, slice_index, MatchResult};
 ghost use Rattle.qws_base.specs.Points.{pixel_count};
 ghost use Rattle.qws_base.specs.Colours.{IsSceneColour};
-ghost use Rattle.fb_words.specs.Tables.{first_pixel, IsLineWord};
+ghost use Rattle.region_table.specs.Numbers.{closed_gate, first_pixel, IsLineWord};
 ghost use Rattle.fb_words.specs.declared.known.ServerMode.TheVariants.{Resting, Closing, Writing};
-ghost use Rattle.fb_words.specs.Views.{total, is_client};
-ghost use Rattle.fb_words.specs.Steps.{after_announce, after_settle, after_withdraw, after_read, after_write, IsNextTable, CarriesAtGive, after_give, with_step, AllHere, Knows, ReadTells, IsBetweenTurns, arranged};
+ghost use Rattle.turn_logs.specs.Lists.{total};
+ghost use Rattle.fb_words.specs.Views.{is_client};
+ghost use Rattle.fb_words.specs.Steps.{after_announce, after_settle, after_withdraw, after_read, after_write, IsNextTable, CarriesAtGive, after_give, with_step, AllHere, Knows, ReadTells, IsBetweenTurns, arranged, SitsAs};
+ghost use Rattle.qws_base.specs.Books.{BookView};
 ghost use Rattle.fb_words.specs.Clips.{EachKeepsClips};
 
 use crate::plays::{Announces, Entry, Gives, Reads, Settles, Withdraws, Writes};
 use crate::screen::Screen;
 use crate::tokens::Head;
 use qws_base::JournalEntry;
+use region_table::{CLOSED_GATE, GATE};
 use std::marker::Brand;
-
-const CLOSED: u64 = 1 << 32;
 
 impl Screen {
     /// Closes the gate, so that no painter that enters later is let in, and answers the word that it found.
@@ -22,12 +23,12 @@ impl Screen {
         requires screen { head.old.screen ≡ self.now }
         requires resting { head.old.server.mode ≡ Resting }
         ensures head { head.new ≡ record head.old { server = after_announce head.old.server } }
-        ensures found { result < 2 ^ 32 }
+        ensures found { result < closed_gate }
     {
         let found = self
             .table
             .shared
-            .fetch_or::<Announces>(&mut head.seat, 0, CLOSED);
+            .fetch_or::<Announces>(&mut head.seat, GATE as usize, CLOSED_GATE);
         head.closing = true;
         found
     }
@@ -38,13 +39,17 @@ impl Screen {
     pub fn settle(&self, head: &mut Head) -> Result<(), u64>
         requires screen { head.old.screen ≡ self.now }
         requires closing { head.old.server.mode ≡ Closing }
-        ensures head { MatchResult result (λ _. head.new ≡ record head.old { server = after_settle head.old.server 4294967296 }) (λ n. (n ≡ 4294967296 → ⊥) × (head.new ≡ record head.old { server = after_settle head.old.server n })) }
+        ensures head { MatchResult result (λ _. head.new ≡ record head.old { server = after_settle head.old.server closed_gate }) (λ n. (n ≡ closed_gate → ⊥) × (head.new ≡ record head.old { server = after_settle head.old.server n })) }
         ensures between { IsBetweenTurns head.new.server }
+        ensures setting { head.old.server.setting ≡ self.now.setting }
         ensures free { MatchResult result (λ _. Unit {0}) (λ n. AllHere head.old.server head.old.sitting → ⊥) }
         ensures known { AllHere head.old.server head.old.sitting → Knows head.old.server (arranged (length head.old.server.limits) head.old.sitting) }
     {
-        let found = self.table.shared.load::<Settles>(&mut head.seat, 0);
-        if found != CLOSED {
+        let found = self
+            .table
+            .shared
+            .load::<Settles>(&mut head.seat, GATE as usize);
+        if found != CLOSED_GATE {
             return Err(found);
         }
         head.closing = false;
@@ -59,7 +64,7 @@ impl Screen {
     {
         self.table
             .shared
-            .fetch_sub::<Withdraws>(&mut head.seat, 0, CLOSED);
+            .fetch_sub::<Withdraws>(&mut head.seat, GATE as usize, CLOSED_GATE);
         head.closing = false;
     }
 
@@ -102,7 +107,7 @@ impl Screen {
     {
         self.table
             .shared
-            .fetch_sub::<Gives<E>>(&mut head.seat, 0, CLOSED);
+            .fetch_sub::<Gives<E>>(&mut head.seat, GATE as usize, CLOSED_GATE);
         head.seen[entry.client as usize] = entry.number;
     }
 
@@ -118,6 +123,7 @@ impl Screen {
         requires carries { CarriesAtGive head.old.server entry.now }
         ensures head { head.new ≡ record head.old { server = after_give head.old.server entry.now; sitting = map (with_step entry.now) head.old.sitting } }
         ensures kept { EachKeepsClips head.old.sitting head.new.sitting }
+        ensures stubs { (stub : BookView) → SitsAs stub head.old.sitting → SitsAs stub head.new.sitting }
     {
         self.give_as::<Brand>(head, entry);
     }

@@ -35,7 +35,8 @@ pub struct Head {
 
 impl Model for Head {
     ghost use Rattle.std.specs.Prelude.{◌≡◌, [], length};
-    ghost use Rattle.fb_words.specs.Views.{HeadView, head_view, the_server, total, busy, is_closing, HasSeen};
+    ghost use Rattle.fb_words.specs.Views.{HeadView, head_view, the_server, busy, is_closing, HasSeen};
+    ghost use Rattle.turn_logs.specs.Lists.{total};
 
     ghost Value = { HeadView };
 

@@ -3,21 +3,24 @@ use Rattle.std.proofs.Common.{◌≡◌, Bool, true, false, ◌==◌, if◌then�
 use Rattle.std.proofs.lemmas.List.{length-set, get_or-set_same}
 use mathlib.Core.Option.{some, some-injective}
 use lib.ListN.{get_elem?}
-use Rattle.fb_words.proofs.Totals.{total_map}
+use Rattle.turn_logs.proofs.Totals.{total_map}
 use Rattle.qws_base.specs.Sides.{Sides, IsScreen}
 use Rattle.qws_base.specs.States.{is_refused}
 use Rattle.qws_base.specs.Scenes.{Setting}
 use Rattle.qws_base.specs.declared.journals.JournalEntry.{JournalEntry}
 use Rattle.fb_words.specs.declared.known.Client.{Client}
 use Rattle.fb_words.specs.declared.known.Server.{Server}
-use Rattle.fb_words.specs.declared.known.Item.TheVariants.{Pick}
-use Rattle.fb_words.specs.Tables.{is_table_word, opening_table, IsTable, Follows, table_of}
-use Rattle.fb_words.specs.Views.{ScreenView, HeadView, total, is_client, opening_server}
+use Rattle.turn_logs.specs.declared.items.Item.TheVariants.{Pick}
+use Rattle.turn_logs.specs.Tables.{opening_table, IsTable, Follows, table_of}
+use Rattle.region_table.specs.Numbers.{is_table_word}
+use Rattle.fb_words.specs.Views.{ScreenView, HeadView, is_client, opening_server}
+use Rattle.turn_logs.specs.Lists.{total}
 use Rattle.fb_words.specs.Steps.{IsNextTable, CarriesAtGive, with_step, stepped, closed_turn, after_give, with_limit, after_read}
-use Rattle.fb_words.proofs.Opening.{length-opening, first_table}
+use Rattle.turn_logs.proofs.FirstTable.{length-opening, first_table}
 use Rattle.qws_rows_threads.specs.Tokens.{IsReadyIn, IsReady, IsHead, with_stamp, IsStamped}
-use Rattle.qws_rows_threads.proofs.Tables.{table_like, follows_like, follows_itself, same_cursor, stamped}
-use Rattle.qws_rows_threads.proofs.Refused.{refused_carried, one_pick}
+use Rattle.turn_logs.proofs.Stamping.{cursor_words, table_like, follows_like, follows_itself, same_cursor, stamped}
+use Rattle.turn_logs.proofs.Standing.{refused_carried}
+use Rattle.turn_logs.proofs.Joining.{one_pick}
 
 at_last : {A : Type 0} (l : List A) (a : A) (n : ℕ) → length l ≡ n → get_elem? (l ++ a ∷ []) n ≡ some a
 at_last [] a zero e = refl
@@ -32,7 +35,7 @@ ready_first size admitted screen = record {
   wide = length-opening;
   before = opening_table;
   last = refl;
-  is_table = let first = first_table size screen in table_like size 0 admitted 0 0 opening_table opening_table (omega arith) first.stamp_is (λ i far. refl) first;
+  is_table = let first = first_table size screen in table_like size 0 admitted 0 0 opening_table opening_table (omega arith) first.stamp_is (λ i is ne. refl) first;
   follows = follows_itself opening_table;
   cursor = refl;
   unput = tt;
@@ -46,16 +49,16 @@ stamped_table s number ready is = let wide : length s.present ≡ 10632 = ready.
 pub next_table : (s : Server) (number : ℕ) → IsReady s → length s.closed + 1 ≡ number → IsNextTable (with_stamp s number)
 next_table s number ready is = record {
   is_table = stamped_table s number ready is;
-  follows = λ t at. subst (λ b. Follows b (set s.present 1 number)) (some-injective ready.before t (sym ready.last ∙ at)) (follows_like ready.before s.present (set s.present 1 number) (stamped s.present number) ready.follows);
+  follows = λ t at. subst (λ b. Follows b (set s.present 1 number)) (some-injective ready.before t (sym ready.last ∙ at)) (follows_like s.setting.size (length s.limits) (length s.closed) ready.before s.present (set s.present 1 number) ready.is_table (stamped s.present number) ready.follows);
 }
 
 -- the cursor is that of the last closed table
 pub stamped_cursor : (s : Server) (number : ℕ) (ready : IsReady s) → (table_of ready.before).cursor ≡ (table_of (set s.present 1 number)).cursor
-stamped_cursor s number ready = ready.cursor ∙ same_cursor s.setting.size s.present (set s.present 1 number) (λ i low high. stamped s.present number i low) ready.is_table.cursor
+stamped_cursor s number ready = ready.cursor ∙ same_cursor s.setting.size s.present (set s.present 1 number) (cursor_words s.present (set s.present 1 number) (stamped s.present number)) ready.is_table.cursor
 
 pub carries_refused : (s : Server) (number : ℕ) (e : JournalEntry) → IsReady s → is_refused e.reply ≡ true → CarriesAtGive (with_stamp s number) e
 carries_refused s number e ready refused = λ t at. let is = some-injective ready.before t (sym ready.last ∙ at) in
-    refused_carried s.setting (table_of t) (table_of (set s.present 1 number)) e.command e.reply s.log refused (subst (λ b. (table_of b).cursor ≡ (table_of (set s.present 1 number)).cursor) is (stamped_cursor s number ready)) ready.unput
+    refused_carried s.setting (table_of t) (table_of (set s.present 1 number)) e.command e.reply s.log ready.unput refused (subst (λ b. (table_of b).cursor ≡ (table_of (set s.present 1 number)).cursor) is (stamped_cursor s number ready))
 
 -- after the turn
 pub ready_again : (s : Server) (number : ℕ) (n : ℕ) → IsReady s → length s.closed + 1 ≡ number → n ≡ length s.closed + 1

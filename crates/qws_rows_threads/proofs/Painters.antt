@@ -9,20 +9,20 @@ use Rattle.qws_base.specs.Sheets.{Sheet}
 use Rattle.qws_base.specs.Scenes.{Setting, inked}
 use Rattle.qws_base.specs.declared.replies.PaintReply.TheVariants.{Painted, Gone}
 use Rattle.region_table.specs.Tables.{no_row, row_of, rows_from, row_from}
-use Rattle.region_table.specs.Layouts.{is_client, layout_of_table}
-use Rattle.fb_words.specs.declared.known.Item.{Item}
+use Rattle.region_table.specs.Layouts.{is_owner, layout_of_table}
+use Rattle.turn_logs.specs.declared.items.Item.{Item}
 use Rattle.fb_words.specs.declared.known.Call.{Call}
 use Rattle.fb_words.specs.declared.known.Mode.{Mode}
 use Rattle.fb_words.specs.declared.known.Mode.TheVariants.{Idle, Refused, Reading}
 use Rattle.fb_words.specs.declared.known.PaintCall.{PaintCall}
 use Rattle.fb_words.specs.declared.known.Call.TheVariants.{Paint}
-use Rattle.fb_words.specs.Tables.{table_of}
+use Rattle.turn_logs.specs.Tables.{table_of}
 use Rattle.fb_words.specs.Clips.{log_in}
 use Rattle.fb_words.specs.Views.{PassView, books_in, book_entry}
 use Rattle.fb_words.specs.Steps.{looked_mode, after_leave}
-use Rattle.fb_words.specs.Carries.{CarriesPaintUnder, RepliesUnder}
+use Rattle.turn_logs.specs.Carries.{CarriesPaintUnder, RepliesUnder}
 use Rattle.fb_words.proofs.Serving.{books_more}
-use Rattle.fb_words.proofs.Standing.{gone_carried}
+use Rattle.turn_logs.proofs.Standing.{gone_carried}
 use Rattle.qws_rows_threads.specs.Tokens.{HasPainted}
 
 no_window : (t : List ℕ) (slot : ℕ) → 33 ≤ slot → row_of (table_of t) slot ≡ no_row
@@ -36,7 +36,7 @@ gone setting t client slot sheet log high none =
     let layout = layout_of_table setting.size (table_of t) in (
       subst (λ l. CarriesPaintUnder setting (table_of t) slot sheet Gone l) (sym none)
           (gone_carried setting (table_of t).cursor (owns layout slot) (row_of (table_of t) slot).origin sheet Gone refl),
-      sym (ap (λ r. if is_client client r.owner then Painted (length (inked setting.size layout slot sheet)) else Gone) (no_window t slot high)),
+      sym (ap (λ r. if is_owner client r.owner then Painted (length (inked setting.size layout slot sheet)) else Gone) (no_window t slot high)),
     )
 
 -- one paint more

@@ -8,13 +8,13 @@ use Rattle.qws_base.specs.Points.{IsPlaced}
 use Rattle.region_table.specs.Packing.{unpacked}
 use Rattle.region_table.specs.Tables.{origin_from}
 use Rattle.region_table.specs.Opening.{opening_row_word}
-use Rattle.fb_words.specs.declared.known.Item.{Item}
-use Rattle.fb_words.specs.Tables.{opening_table, owner_in, revision_in, origin_in, count_in, rect_in, IsOnScreen, IsTable, SameRow, Follows}
+use Rattle.turn_logs.specs.declared.items.Item.{Item}
+use Rattle.turn_logs.specs.Tables.{opening_table, owner_in, revision_in, origin_in, count_in, rect_in, IsOnScreen, IsTable, SameRow, Follows}
 use Rattle.fb_words.specs.Views.{ScreenView, HeadView}
 use Rattle.fb_words.specs.Steps.{after_write}
-use Rattle.fb_words.proofs.Opening.{length-opening, at_row}
+use Rattle.turn_logs.proofs.FirstTable.{length-opening, at_row}
 use Rattle.qws_rows_threads.specs.Tokens.{IsReadyIn, IsHead, with_row}
-use Rattle.qws_rows_threads.proofs.Tables.{same_cursor, cursor_like}
+use Rattle.turn_logs.proofs.Stamping.{same_cursor, cursor_like}
 
 -- ---- the words
 

@@ -1,15 +1,17 @@
 -- What the tests keep of a painter's pass and of the head, in a turn and between turns.
-use Rattle.std.specs.Prelude.{◌≡◌, ℕ, ◌+◌, ◌<◌, ◌≤◌, List, [], ◌∷◌, length, slice_set}
+use Rattle.std.specs.Prelude.{◌≡◌, ℕ, ◌+◌, ◌<◌, ◌≤◌, List, [], length, slice_set}
 use mathlib.Core.Option.{some}
 use lib.ListN.{get_elem?}
 use Rattle.qws_base.specs.Sides.{Sides}
-use Rattle.fb_words.specs.declared.known.Item.{Item}
-use Rattle.fb_words.specs.declared.known.Item.TheVariants.{Pick, Put}
+use Rattle.turn_logs.specs.declared.items.Item.{Item}
+use Rattle.turn_logs.specs.Lines.{OnlyPicks}
 use Rattle.fb_words.specs.declared.known.Mode.TheVariants.{Idle}
 use Rattle.fb_words.specs.declared.known.Server.{Server}
-use Rattle.fb_words.specs.Tables.{first_pixel, table_of, IsTable, Follows}
+use Rattle.turn_logs.specs.Tables.{table_of, IsTable, Follows}
+use Rattle.region_table.specs.Numbers.{first_pixel}
 use Rattle.fb_words.specs.Clips.{log_in}
-use Rattle.fb_words.specs.Views.{ScreenView, PassView, HeadView, total, is_client, books_in}
+use Rattle.fb_words.specs.Views.{ScreenView, PassView, HeadView, is_client, books_in}
+use Rattle.turn_logs.specs.Lists.{total}
 use Rattle.display_lock.specs.declared.turns.PaintTurn.{PaintTurn}
 use Rattle.display_lock.specs.Turns.{IsOpen, client_in}
 
@@ -32,12 +34,6 @@ abbrev pub IsUnpainted : PaintTurn → Type 0
 IsUnpainted t = IsOpen t × (log_in (client_in t).mode ≡ []) × (paints t.pass.now < t.pass.now.book_limit)
 
 -- ---- the head
-
--- nothing was put
-abbrev pub OnlyPicks : List Item → Type 0
-OnlyPicks [] = Unit {0}
-OnlyPicks (Pick word value ∷ l) = OnlyPicks l
-OnlyPicks (Put word value ∷ l) = ⊥
 
 -- The present table can be closed with the next stamp: it follows the last closed one, and has its cursor. No pixel was put.
 pub record IsReadyIn (size : Sides) (admitted closed : ℕ) (tables : List (List ℕ)) (present : List ℕ) (log : List Item) : Type 0 where

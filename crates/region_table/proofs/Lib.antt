@@ -5,3 +5,4 @@ pub mod Pixels
 pub mod SameScenes
 pub mod Openings
 pub mod Owning
+pub mod Words

@@ -11,7 +11,7 @@ use Rattle.qws_base.specs.Points.{is_on_screen, IsPlaced}
 use Rattle.qws_base.specs.Windows.{allocated_points}
 use Rattle.qws_base.specs.States.{opening_revisions, opening_state, revision_of}
 use Rattle.qws_base.specs.declared.points.Point.{Point}
-use Rattle.region_table.specs.Tables.{no_row, row_of, head_word_of, row_word_of, word_of_table, IsRow, IsSpellable}
+use Rattle.region_table.specs.Tables.{no_row, row_of, head_word_of, row_word_of, word_of_table, IsSpellableRow, IsSpellable}
 use Rattle.region_table.specs.Published.{IsRowOf}
 use Rattle.region_table.specs.Opening.{opening_rows, opening_table, opening_row_word, opening_word, OpeningLaw}
 use Rattle.region_table.proofs.Reading.{spelling_law}
@@ -57,14 +57,14 @@ opening_words index =
 origin_placed : IsPlaced no_row.origin
 origin_placed = record { low_x = omega (arith, ints); high_x = omega (arith, ints); low_y = omega (arith, ints); high_y = omega (arith, ints) }
 
-row_fits : IsRow no_row
+row_fits : IsSpellableRow no_row
 row_fits = record { placed = origin_placed; few = omega arith; packable = λ k d below. absurd (omega arith) }
 
-rows_fit : All IsRow opening_rows
+rows_fit : All IsSpellableRow opening_rows
 unfolding opening_rows
 rows_fit k d below =
     let whole = length-map-range_with_len (λ (s : ℕ). no_row) 0 33 in
-    subst IsRow (sym (get_or-map-range_with_len (λ (s : ℕ). no_row) 0 33 k k d (omega arith) (omega arith))) row_fits
+    subst IsSpellableRow (sym (get_or-map-range_with_len (λ (s : ℕ). no_row) 0 33 k k d (omega arith) (omega arith))) row_fits
 
 pub opening_spellable : IsSpellable opening_table
 opening_spellable = record {

@@ -14,7 +14,7 @@ use Rattle.qws_base.specs.Shown.{IsShape}
 use Rattle.qws_base.specs.declared.windows.Cursor.{Cursor}
 use Rattle.region_table.specs.Numbers.{row_word, cell_word}
 use Rattle.region_table.specs.Packing.{IsPackable, packed, unpacked}
-use Rattle.region_table.specs.Tables.{no_row, row_of, owner_from, origin_from, place_word, shape_word, head_word_of, row_word_of, IsCursor, IsRow, IsSpellable, row_from, cells_from, cursor_from, rows_from, table_from}
+use Rattle.region_table.specs.Tables.{no_row, row_of, owner_from, origin_from, place_word, shape_word, head_word_of, row_word_of, IsCursor, IsSpellableRow, IsSpellable, row_from, cells_from, cursor_from, rows_from, table_from}
 use Rattle.region_table.specs.Spelling.{Spell, SpellingLaw}
 use Rattle.region_table.specs.declared.tables.Row.{Row}
 use Rattle.region_table.specs.declared.tables.Table.{Table}
@@ -41,7 +41,7 @@ row_said words table slot k spell low few within =
     ∙ ap (λ s. row_word_of (row_of table s) ((index - 2052) % 260)) at
     ∙ ap (row_word_of (row_of table slot)) rest
 
-rects_read : (words : ℕ → ℕ) (table : Table) (slot n : ℕ) → IsRow (row_of table slot) → Spell words table → slot < 33 → n ≡ length (row_of table slot).rects
+rects_read : (words : ℕ → ℕ) (table : Table) (slot n : ℕ) → IsSpellableRow (row_of table slot) → Spell words table → slot < 33 → n ≡ length (row_of table slot).rects
     → map (λ j. unpacked (words (row_word slot + 4 + j))) (range_with_len 0 n) ≡ (row_of table slot).rects
 rects_read words table slot n ok spell low is =
     let rects : List Rect = (row_of table slot).rects in
@@ -71,7 +71,7 @@ same_row r s a b c d =
     ∙ ap (λ p. record r { owner = s.owner; revision = s.revision; origin = p }) c
     ∙ ap (λ l. record s { rects = l }) d
 
-pub row_read : (words : ℕ → ℕ) (table : Table) (slot : ℕ) → IsRow (row_of table slot) → Spell words table → slot < 33 → row_from words slot ≡ row_of table slot
+pub row_read : (words : ℕ → ℕ) (table : Table) (slot : ℕ) → IsSpellableRow (row_of table slot) → Spell words table → slot < 33 → row_from words slot ≡ row_of table slot
 row_read words table slot ok spell low =
     let first : row_word slot ≡ row_word slot + 0 = omega arith in
     same_row (row_from words slot) (row_of table slot)
@@ -85,7 +85,7 @@ unfolding rows_from
 rows_read words table ok spell =
     let whole : length table.rows ≡ 33 = ok.whole in
     sym (fill_by_all (row_from words) table.rows 33 no_row whole (λ k low.
-    sym (row_read words table k (All-get_or IsRow table.rows k no_row (omega arith) ok.rows) spell low)))
+    sym (row_read words table k (All-get_or IsSpellableRow table.rows k no_row (omega arith) ok.rows) spell low)))
 
 -- ---- the cursor
 

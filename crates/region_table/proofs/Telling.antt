@@ -13,13 +13,13 @@ use mathlib.Core.Logic.{dite}
 use native.Mathlib.Decide.{ℕ_discrete}
 use Rattle.qws_base.specs.Sides.{Sides}
 use Rattle.qws_base.specs.Points.{spans, pixel_count, point_of, is_on_screen, origin_zero}
-use Rattle.qws_base.specs.Windows.{layout_of, has_slot, is_own, covers, owner_at, is_slot}
+use Rattle.qws_base.specs.Windows.{client_of_slot, layout_of, has_slot, is_own, covers, owner_at, is_slot}
 use Rattle.qws_base.specs.States.{State}
 use Rattle.qws_base.specs.declared.points.Point.{Point}
 use Rattle.qws_base.specs.declared.windows.WindowView.{WindowView}
 use Rattle.region_table.specs.Tables.{no_row, row_of}
-use Rattle.region_table.specs.Layouts.{row_holds, is_client, layout_of_table, AreApart}
-use Rattle.region_table.specs.Published.{client_of_slot, IsTableOf, TellSame, AreSlotted, PublishedLaw}
+use Rattle.region_table.specs.Layouts.{row_holds, is_owner, layout_of_table, AreApart}
+use Rattle.region_table.specs.Published.{IsTableOf, TellSame, AreSlotted, PublishedLaw}
 use Rattle.region_table.specs.declared.tables.Row.{Row}
 use Rattle.region_table.specs.declared.tables.Table.{Table}
 
@@ -61,19 +61,19 @@ none_own (w ∷ ws) client slot apart =
     ∙ none_own ws client slot (λ k d within. apart (suc k) d (omega arith))
 
 -- the first window of a slot is the only one
-own_is : (windows : List WindowView) (client slot : ℕ) → AreSlotted windows → is_client client (client_of_slot windows slot) ≡ is_own windows client slot
+own_is : (windows : List WindowView) (client slot : ℕ) → AreSlotted windows → is_owner client (client_of_slot windows slot) ≡ is_own windows client slot
 own_is [] client slot ok = refl
 own_is (w ∷ ws) client slot ok = dite (ℕ_discrete w.slot slot)
     (λ (eq : w.slot ≡ slot).
     let here : (w.slot == slot) ≡ true = eq-eqb w.slot slot eq in
     let apart = (tidy w ws ok).apart in
-    ap (λ b. is_client client (option_map (λ v. v.owner) (cond b (Some w) (find (has_slot slot) ws)))) here
+    ap (λ b. is_owner client (option_map (λ v. v.owner) (cond b (Some w) (find (has_slot slot) ws)))) here
     ∙ sym (ap (λ b. (b && w.owner == client) || is_own ws client slot) here
     ∙ ap (λ b. (w.owner == client) || b) (none_own ws client slot (λ k d within e. apart k d within (eq ∙ e)))
     ∙ or_false (w.owner == client)))
     (λ (ne : w.slot ≢ slot).
     let there : (w.slot == slot) ≡ false = ne_eqb w.slot slot ne in
-    ap (λ b. is_client client (option_map (λ v. v.owner) (cond b (Some w) (find (has_slot slot) ws)))) there
+    ap (λ b. is_owner client (option_map (λ v. v.owner) (cond b (Some w) (find (has_slot slot) ws)))) there
     ∙ own_is ws client slot (tidy w ws ok).rest
     ∙ sym (ap (λ b. (b && w.owner == client) || is_own ws client slot) there))
   where
@@ -145,9 +145,9 @@ module _ (size : Sides) (state : State) (stamp : ℕ) (table : Table) where
         ∙ sym (ap (λ w. option_map_or (λ v. v.origin) w origin_zero) (find_high state.windows slot ok high)))
         (cases_lt slot 32);
     is_own = λ client slot. ⊎_elim
-        (λ (low : slot < 32). ap (is_client client) (is.rows slot low).owner)
-        (λ (high : 32 ≤ slot). ap (λ r. is_client client r.owner) (row_past table slot is.whole is.last high)
-        ∙ sym (ap (λ w. is_client client (option_map (λ v. v.owner) w)) (find_high state.windows slot ok high)))
+        (λ (low : slot < 32). ap (is_owner client) (is.rows slot low).owner)
+        (λ (high : 32 ≤ slot). ap (λ r. is_owner client r.owner) (row_past table slot is.whole is.last high)
+        ∙ sym (ap (λ w. is_owner client (option_map (λ v. v.owner) w)) (find_high state.windows slot ok high)))
         (cases_lt slot 32)
         ∙ own_is state.windows client slot ok;
   }

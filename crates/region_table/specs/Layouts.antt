@@ -16,16 +16,16 @@ row_holds p row = any_holds row.rects p
 abbrev pub slot_at : Table → Point → Option ℕ
 slot_at table p = position (row_holds p) table.rows
 
-abbrev pub is_client : ℕ → Option ℕ → Bool
-is_client client None = false
-is_client client (Some other) = other == client
+abbrev pub is_owner : ℕ → Option ℕ → Bool
+is_owner client None = false
+is_owner client (Some other) = other == client
 
 -- the owner of a pixel is the first row that has its point; a client owns the slots whose rows name it
 abbrev pub layout_of_table : Sides → Table → Layout
 layout_of_table size table = record {
   owner = λ p. slot_at table (point_of size.w p);
   origin = λ slot. (row_of table slot).origin;
-  is_own = λ client slot. is_client client (row_of table slot).owner;
+  is_own = λ client slot. is_owner client (row_of table slot).owner;
 }
 
 -- no pixel of the screen is in two rows

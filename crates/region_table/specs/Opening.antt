@@ -3,7 +3,7 @@ use Rattle.std.specs.Prelude.{◌≡◌, ℕ, ◌-◌, ◌%◌, ◌==◌, nat_lt
 use Rattle.std.specs.List.{range_with_len}
 use Rattle.qws_base.specs.Sides.{Sides}
 use Rattle.qws_base.specs.States.{opening_cursor, opening_state}
-use Rattle.region_table.specs.Numbers.{IsTableWord}
+use Rattle.region_table.specs.Numbers.{first_row, row_size, IsTableWord}
 use Rattle.region_table.specs.Tables.{no_row, table_from}
 use Rattle.region_table.specs.Published.{IsTableOf}
 use Rattle.region_table.specs.declared.tables.Row.{Row}
@@ -22,7 +22,7 @@ opening_row_word k = if k == 1 then 1 else if k == 2 then 2147516416 else 0
 
 -- the opening value of the table word with that number
 abbrev pub opening_word : ℕ → ℕ
-opening_word index = if nat_lt index 2052 then 0 else opening_row_word ((index - 2052) % 260)
+opening_word index = if nat_lt index first_row then 0 else opening_row_word ((index - first_row) % row_size)
 
 -- the opening words are read as the opening table, which the opening state publishes
 pub record OpeningLaw : Type 0 where

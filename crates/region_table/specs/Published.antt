@@ -1,21 +1,15 @@
 -- The table that a state publishes.
-use Rattle.std.specs.Prelude.{◌≡◌, ◌≢◌, ℕ, ◌<◌, List, Option, length, All, AllPairs}
-use Rattle.std.specs.List.{find}
-use Rattle.std.specs.Option.{option_map}
+use Rattle.std.specs.Prelude.{◌≡◌, ◌≢◌, ℕ, ◌<◌, List, length, All, AllPairs}
 use Rattle.qws_base.specs.Sides.{Sides}
 use Rattle.qws_base.specs.Regions.{IsRegionOf}
 use Rattle.qws_base.specs.Points.{pixel_count}
-use Rattle.qws_base.specs.Windows.{Layout, layout_of, has_slot, origin_of, allocated_points}
+use Rattle.qws_base.specs.Windows.{Layout, layout_of, client_of_slot, origin_of, allocated_points}
 use Rattle.qws_base.specs.States.{State, revision_of}
 use Rattle.qws_base.specs.declared.windows.WindowView.{WindowView}
 use Rattle.region_table.specs.Tables.{no_row, row_of}
 use Rattle.region_table.specs.Layouts.{layout_of_table}
 use Rattle.region_table.specs.declared.tables.Row.{Row}
 use Rattle.region_table.specs.declared.tables.Table.{Table}
-
--- the client whose window has the slot
-abbrev pub client_of_slot : List WindowView → ℕ → Option ℕ
-client_of_slot windows slot = option_map (λ w. w.owner) (find (has_slot slot) windows)
 
 -- the row has the slot's client, revision, origin, and the canonical list of the points that belong to it
 pub record IsRowOf (size : Sides) (state : State) (slot : ℕ) (row : Row) : Type 0 where

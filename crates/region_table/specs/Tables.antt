@@ -5,7 +5,7 @@ use Rattle.qws_base.specs.Points.{origin_zero, IsPlaced}
 use Rattle.qws_base.specs.Shown.{IsShape, cell_at}
 use Rattle.qws_base.specs.declared.points.Point.{Point}
 use Rattle.qws_base.specs.declared.windows.Cursor.{Cursor}
-use Rattle.region_table.specs.Numbers.{row_word, cell_word}
+use Rattle.region_table.specs.Numbers.{stamp_at, place_at, shape_at, first_cell, first_row, row_size, row_word, cell_word}
 use Rattle.region_table.specs.Packing.{IsPackable, packed, unpacked}
 use Rattle.region_table.specs.declared.tables.Row.{Row}
 use Rattle.region_table.specs.declared.tables.Table.{Table}
@@ -43,10 +43,10 @@ cell_value cursor column row = if nat_lt column cursor.w && nat_lt row cursor.h 
 -- the words 1 to 1,027
 abbrev pub head_word_of : Table → ℕ → ℕ
 head_word_of table index =
-    if index == 1 then table.stamp
-    else if index == 2 then place_word table.cursor
-    else if index == 3 then shape_word table.cursor
-    else cell_value table.cursor ((index - 4) % 32) ((index - 4) / 32)
+    if index == stamp_at then table.stamp
+    else if index == place_at then place_word table.cursor
+    else if index == shape_at then shape_word table.cursor
+    else cell_value table.cursor ((index - first_cell) % 32) ((index - first_cell) / 32)
 
 -- the words of a row, counted from its first; 0 past the last rectangle
 abbrev pub row_word_of : Row → ℕ → ℕ
@@ -60,7 +60,7 @@ row_word_of row k =
 -- the word of a table with that number
 abbrev pub word_of_table : Table → ℕ → ℕ
 word_of_table table index =
-    if nat_lt index 2052 then head_word_of table index else row_word_of (row_of table ((index - 2052) / 260)) ((index - 2052) % 260)
+    if nat_lt index first_row then head_word_of table index else row_word_of (row_of table ((index - first_row) / row_size)) ((index - first_row) % row_size)
 
 -- ---- what has a place in the words
 
@@ -70,7 +70,7 @@ pub record IsCursor (cursor : Cursor) : Type 0 where
   pub in_columns : cursor.x < 640
   pub in_rows : cursor.y < 480
 
-pub record IsRow (row : Row) : Type 0 where
+pub record IsSpellableRow (row : Row) : Type 0 where
   pub placed : IsPlaced row.origin
   pub few : length row.rects ≤ 256
   pub packable : All IsPackable row.rects
@@ -78,7 +78,7 @@ pub record IsRow (row : Row) : Type 0 where
 pub record IsSpellable (table : Table) : Type 0 where
   pub cursor : IsCursor table.cursor
   pub whole : length table.rows ≡ 33
-  pub rows : All IsRow table.rows
+  pub rows : All IsSpellableRow table.rows
 
 -- ---- the table that words spell, by number
 
@@ -103,16 +103,16 @@ cells_from words w h = map (λ k. words (cell_word (k % w) (k / w))) (range_with
 
 abbrev pub cursor_from : (ℕ → ℕ) → Cursor
 cursor_from words = record {
-  x = words 2 % 2 ^ 16;
-  y = words 2 / 2 ^ 16 % 2 ^ 16;
-  w = words 3 % 2 ^ 16;
-  h = words 3 / 2 ^ 16;
-  cells = cells_from words (words 3 % 2 ^ 16) (words 3 / 2 ^ 16);
-  shown = words 2 / 2 ^ 32 == 1;
+  x = words place_at % 2 ^ 16;
+  y = words place_at / 2 ^ 16 % 2 ^ 16;
+  w = words shape_at % 2 ^ 16;
+  h = words shape_at / 2 ^ 16;
+  cells = cells_from words (words shape_at % 2 ^ 16) (words shape_at / 2 ^ 16);
+  shown = words place_at / 2 ^ 32 == 1;
 }
 
 unfoldable pub rows_from : (ℕ → ℕ) → List Row
 rows_from words = map (row_from words) (range_with_len 0 33)
 
 abbrev pub table_from : (ℕ → ℕ) → Table
-table_from words = record { stamp = words 1; cursor = cursor_from words; rows = rows_from words }
+table_from words = record { stamp = words stamp_at; cursor = cursor_from words; rows = rows_from words }

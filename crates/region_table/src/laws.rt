@@ -1,4 +1,5 @@
 //! Laws of the layout. Each function does nothing; its clause is the law.
+ghost use Rattle.region_table.specs.Numbers.{KindLaw};
 ghost use Rattle.region_table.specs.Spelling.{SpellingLaw};
 ghost use Rattle.region_table.specs.Published.{PublishedLaw};
 ghost use Rattle.region_table.specs.Opening.{OpeningLaw};
@@ -18,4 +19,9 @@ pub fn table_tells_windows()
 /// The words that a screen opens with are read as a table without windows, and that is the table of the opening state.
 pub fn opening_table_of_words()
     ensures { OpeningLaw }
+{}
+
+/// But for the gate, each word is a table word, or it is a saved word or a framebuffer word.
+pub fn words_are_of_one_kind()
+    ensures { KindLaw }
 {}

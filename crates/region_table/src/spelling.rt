@@ -3,14 +3,15 @@ ghost use Rattle.std.specs.Prelude.{◌≡◌, ◌≤◌, All, map, slice_index}
 ghost use Rattle.qws_base.specs.Points.{IsPlaced};
 ghost use Rattle.region_table.specs.Numbers.{IsTableWord};
 ghost use Rattle.region_table.specs.Packing.{IsPackable, packed};
-ghost use Rattle.region_table.specs.Tables.{IsSpellable, IsRow, IsCursor, owner_word, origin_word, place_word, cell_value, head_word_of, row_word_of, word_of_table};
+ghost use Rattle.region_table.specs.Tables.{IsSpellable, IsSpellableRow, IsCursor, owner_word, origin_word, place_word, shape_word, cell_value, head_word_of, row_word_of, word_of_table};
 
+use crate::numbers::{FIRST_CELL, FIRST_ROW, PLACE, ROW_SIZE, SHAPE, STAMP};
 use crate::packing::pack;
 use crate::tables::{Row, Table};
 use qws_base::{Cursor, Point, Rects};
 
-// The owner's number plus one; 0 without an owner.
-fn owner_word(owner: Option<u32>) -> u64
+/// What a row's first word holds: the owner's number plus one; 0 without an owner.
+pub fn owner_word(owner: Option<u32>) -> u64
     ensures { result ≡ owner_word owner }
 {
     match owner {
@@ -19,21 +20,29 @@ fn owner_word(owner: Option<u32>) -> u64
     }
 }
 
-// Both coordinates with an offset of 32,768.
-fn origin_word(p: Point) -> u64
+/// What a row's word of the origin holds: both coordinates with an offset of 32,768, sixteen bits each.
+pub fn origin_word(p: Point) -> u64
     requires { IsPlaced p }
     ensures { result ≡ origin_word p }
 {
     (i64::from(p.x) + 32768) as u64 + (((i64::from(p.y) + 32768) as u64) << 16)
 }
 
-// The cursor's place, and whether it is shown.
-fn place_word(cursor: &Cursor) -> u64
+/// What the word of the cursor's place holds: its column and row, sixteen bits each, and above them whether it is shown.
+pub fn place_word(cursor: &Cursor) -> u64
     requires { IsCursor cursor.now }
     ensures { result ≡ place_word cursor.now }
 {
     let shown = if cursor.shown { 1 << 32 } else { 0 };
     u64::from(cursor.x) + (u64::from(cursor.y) << 16) + shown
+}
+
+/// What the word of the cursor's shape holds: its width and height, sixteen bits each.
+pub fn shape_word(cursor: &Cursor) -> u64
+    requires { IsCursor cursor.now }
+    ensures { result ≡ shape_word cursor.now }
+{
+    u64::from(cursor.w) + (u64::from(cursor.h) << 16)
 }
 
 // The rectangle at a place in a row; 0 past the last.
@@ -68,16 +77,19 @@ fn head_word(table: &Table, index: u64) -> u64
 {
     let cursor = &table.cursor;
     match index {
-        1 => table.stamp,
-        2 => place_word(cursor),
-        3 => u64::from(cursor.w) + (u64::from(cursor.h) << 16),
-        _ => cell_value(cursor, ((index - 4) % 32) as u32, ((index - 4) / 32) as u32),
+        STAMP => table.stamp,
+        PLACE => place_word(cursor),
+        SHAPE => shape_word(cursor),
+        _ => {
+            let cell = index - FIRST_CELL;
+            cell_value(cursor, (cell % 32) as u32, (cell / 32) as u32)
+        }
     }
 }
 
 // The words of a row, counted from its first.
 fn row_word(row: &Row, k: u64) -> u64
-    requires { IsRow row.now }
+    requires { IsSpellableRow row.now }
     ensures { result ≡ row_word_of row.now k }
 {
     match k {
@@ -96,10 +108,10 @@ pub fn word_of(table: &Table, index: u64) -> u64
     requires table { IsSpellable table.now }
     ensures { result ≡ word_of_table table.now index }
 {
-    if index < 2052 {
+    if index < FIRST_ROW {
         head_word(table, index)
     } else {
-        let row = &table.rows.as_slice()[((index - 2052) / 260) as usize];
-        row_word(row, (index - 2052) % 260)
+        let row = &table.rows.as_slice()[((index - FIRST_ROW) / ROW_SIZE) as usize];
+        row_word(row, (index - FIRST_ROW) % ROW_SIZE)
     }
 }

@@ -1,5 +1,5 @@
 use Rattle.std.proofs.Common.{◌≡◌}
-use Rattle.fb_words.specs.Tables.{opening_words}
+use Rattle.turn_logs.specs.Tables.{opening_words}
 use Rattle.fb_words.proofs.seats.opening_table.Given as goal
 
 abbrev pub invariant-loop-index : goal.invariant-loop-index

@@ -1,7 +1,8 @@
 use Rattle.std.proofs.Common.{rules, ◌≡◌, ◌+◌, ◌≤◌, length, sym, ap, ◌∙◌, subst}
 use Rattle.qws_base.specs.declared.journals.JournalEntry.{JournalEntry}
 use Rattle.fb_words.specs.declared.known.ServerMode.TheVariants.{Writing}
-use Rattle.fb_words.specs.Views.{HeadView, total, is_client}
+use Rattle.fb_words.specs.Views.{HeadView, is_client}
+use Rattle.turn_logs.specs.Lists.{total}
 use Rattle.fb_words.specs.Steps.{IsNextTable, CarriesAtGive}
 use Rattle.fb_words.proofs.Serving.{gives_seat}
 use Rattle.fb_words.proofs.Heads.{given_head, seen_of}

@@ -1,7 +1,8 @@
 use Rattle.std.proofs.Common.{rules, ℕ, ◌≡◌, ◌≤◌, ◌<◌, sym, ap, ◌∙◌, subst}
 use Rattle.atomic_table.specs.Table.{Me}
 use Rattle.fb_words.specs.declared.known.View.{View}
-use Rattle.fb_words.specs.Views.{HeadView, total, is_client, client_of, books_in, only}
+use Rattle.fb_words.specs.Views.{HeadView, is_client, client_of, books_in, only}
+use Rattle.turn_logs.specs.Lists.{total}
 use Rattle.fb_words.proofs.Sitting.{rises_seat, risen_ok}
 use Rattle.fb_words.proofs.Heads.{risen_head, seen_of, idle_there}
 use Rattle.fb_words.proofs.screen.Screen.rise_as.Goals as goal

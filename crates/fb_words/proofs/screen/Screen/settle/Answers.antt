@@ -11,12 +11,12 @@ load-found-requires c = (
   settles_seat _ _ _ _ c.head.invariant.0 c.head.invariant.2 (ap (λ h. h.server.mode) c.head.view_is ∙ c.requires.closing),
 )
 
-pub returns-then-found-ne-CLOSED-clause-free : goal.returns-then-found-ne-CLOSED-clause-free
-returns-then-found-ne-CLOSED-clause-free c here = let P : HeadView → Type 0 = λ h. AllHere h.server h.sitting → c.load-found.result ≡ 4294967296 in
-    c.if-found-ne-CLOSED.true (subst P c.head.view_is c.load-found.ensures.2.1 here)
+pub returns-then-found-ne-CLOSED_GATE-clause-free : goal.returns-then-found-ne-CLOSED_GATE-clause-free
+returns-then-found-ne-CLOSED_GATE-clause-free c here = let P : HeadView → Type 0 = λ h. AllHere h.server h.sitting → c.load-found.result ≡ 4294967296 in
+    c.if-found-ne-CLOSED_GATE.true (subst P c.head.view_is c.load-found.ensures.2.1 here)
 
-pub returns-then-found-ne-CLOSED-clause-known : goal.returns-then-found-ne-CLOSED-clause-known
-returns-then-found-ne-CLOSED-clause-known c = let P : HeadView → Type 0 = λ h. AllHere h.server h.sitting → Knows h.server (arranged (length h.server.limits) h.sitting) in subst P c.head.view_is c.load-found.ensures.2.2
+pub returns-then-found-ne-CLOSED_GATE-clause-known : goal.returns-then-found-ne-CLOSED_GATE-clause-known
+returns-then-found-ne-CLOSED_GATE-clause-known c = let P : HeadView → Type 0 = λ h. AllHere h.server h.sitting → Knows h.server (arranged (length h.server.limits) h.sitting) in subst P c.head.view_is c.load-found.ensures.2.2
 
 pub returns-clause-known : goal.returns-clause-known
 returns-clause-known c = let P : HeadView → Type 0 = λ h. AllHere h.server h.sitting → Knows h.server (arranged (length h.server.limits) h.sitting) in subst P c.head.view_is c.load-found.ensures.2.2

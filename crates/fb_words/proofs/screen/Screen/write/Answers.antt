@@ -1,7 +1,7 @@
 use Rattle.std.proofs.Common.{◌+◌, ◌<◌, sym, ap, ◌∙◌, subst, arith}
 use Rattle.qws_base.specs.Points.{pixel_count}
 use Rattle.qws_base.specs.Colours.{IsSceneColour}
-use Rattle.fb_words.specs.Tables.{IsLineWord}
+use Rattle.region_table.specs.Numbers.{IsLineWord}
 use Rattle.fb_words.specs.Views.{HeadView, ScreenView}
 use Rattle.fb_words.proofs.Serving.{writes_seat}
 use Rattle.fb_words.proofs.screen.Screen.write.Goals as goal

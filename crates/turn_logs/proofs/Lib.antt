@@ -1,0 +1,13 @@
+pub mod Joining
+pub mod Totals
+pub mod Options
+pub mod FirstTable
+pub mod Carrying
+pub mod Law
+pub mod Standing
+pub mod Sessions
+pub mod Publishing
+pub mod Phases
+pub mod Lifting
+pub mod PixelItems
+pub mod Stamping
