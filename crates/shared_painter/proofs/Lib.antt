@@ -1,0 +1,5 @@
+pub mod Cutting
+pub mod Painting
+pub mod Parts
+pub mod Carrying
+pub mod Ending

@@ -1,0 +1,4 @@
+pub mod Cuts
+pub mod Painted
+pub mod Carried
+pub mod Answers

@@ -1,0 +1,48 @@
+-- What painting pixels adds to the log of a turn.
+use Rattle.std.specs.Prelude.{◌≡◌, ℕ, ◌+◌, ◌<◌, ◌≤◌, true, List, [], ◌∷◌, ◌++◌, map, length}
+use Rattle.qws_base.specs.Points.{holds, point_of, pixel_count}
+use Rattle.qws_base.specs.RectPixels.{rects_pixels}
+use Rattle.qws_base.specs.declared.points.Rect.{Rect}
+use Rattle.qws_base.specs.Scenes.{Setting, ink_on}
+use Rattle.qws_base.specs.Sheets.{Sheet}
+use Rattle.qws_base.specs.declared.points.Point.{Point}
+use Rattle.qws_base.specs.declared.windows.Cursor.{Cursor}
+use Rattle.region_table.specs.Numbers.{pixel_word}
+use Rattle.region_table.specs.Tables.{cursor_from}
+use Rattle.turn_logs.specs.declared.items.Item.{Item}
+use Rattle.fb_words.specs.declared.known.Client.{Client}
+use Rattle.turn_logs.specs.Carries.{shown_cell}
+use Rattle.fb_words.specs.Clips.{looked_in, log_in}
+use Rattle.fb_words.specs.Looks.{LookedIn}
+use Rattle.fb_words.specs.Rights.{Owns}
+use Rattle.sw_cursor.specs.Covers.{put_items}
+use Rattle.shared_painter.specs.Cuts.{cut_rect}
+
+-- f of each pixel and what was found there, one after the other
+abbrev pub zipped : (ℕ → ℕ → List Item) → List ℕ → List ℕ → List Item
+zipped f [] vs = []
+zipped f (p ∷ ps) [] = []
+zipped f (p ∷ ps) (v ∷ vs) = f p v ++ zipped f ps vs
+
+-- the items of a sheet on a pixel where v was found
+abbrev pub items_at : Setting → Cursor → Point → Sheet → ℕ → ℕ → List Item
+items_at setting cursor origin sheet k v = put_items setting.depth k (shown_cell setting.size cursor k) (ink_on setting.size.w origin sheet k) v
+
+-- the log has grown by the items of the sheet on those pixels, with what was found on each
+pub record PaintsPixels (origin : Point) (sheet : Sheet) (ps : List ℕ) (p q : Client) : Type 0 where
+  pub values : List ℕ
+  pub long : length values ≡ length ps
+  pub log : (words : ℕ → ℕ) → LookedIn (looked_in q.mode) words
+      → log_in q.mode ≡ log_in p.mode ++ zipped (items_at p.setting (cursor_from words) origin sheet) ps values
+
+-- the client owns so many pixels from the first on
+abbrev pub OwnsSpan : Client → ℕ → ℕ → Type 0
+OwnsSpan p first n = (k : ℕ) → first ≤ k → k < first + n → Owns p (pixel_word k)
+
+-- the client owns each pixel of the rectangle
+abbrev pub OwnsRect : Client → Rect → Type 0
+OwnsRect p r = (k : ℕ) → k < pixel_count p.setting.size → holds r (point_of p.setting.size.w k) ≡ true → Owns p (pixel_word k)
+
+-- the pixels of the parts of rectangles that a picture at an origin reaches
+abbrev pub cut_pixels : ℕ → Point → Rect → List Rect → List ℕ
+cut_pixels width origin reach rects = rects_pixels width (map (cut_rect origin reach) rects)

@@ -1,0 +1,3 @@
+pub mod Covered
+pub mod Logs
+pub mod Lifted

@@ -1,0 +1,3 @@
+pub mod Shapes
+pub mod Covers
+pub mod Lifts
