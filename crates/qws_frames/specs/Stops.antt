@@ -2,8 +2,8 @@
 use Rattle.std.specs.Prelude.{◌≡◌, ℕ, ◌+◌, ◌-◌, ◌*◌, ◌%◌, ◌^◌, min, nat_le, nat_lt, Bool, true, false, not, ◌&&◌, ◌||◌, ◌==◌, List, [], ◌∷◌, length, Option, Some, None, Result, Ok, Err, if◌then◌else◌}
 use Rattle.std.specs.Option.{option_or}
 use Rattle.qws_base.specs.declared.commands.Command.{Command}
-use Rattle.qws_base.specs.declared.commands.Command.TheVariants.{Region, CursorShape, Join, Leave, Send, IsRegistered}
-use Rattle.qws_base.specs.declared.replies.Event.TheVariants.{Message}
+use Rattle.qws_base.specs.declared.commands.Command.TheVariants.{Create, Destroy, Region, Move, Raise, Lower, CursorShape, CursorMove, CursorShow, Join, Leave, Send, Take, IsRegistered}
+use Rattle.qws_base.specs.declared.replies.Event.TheVariants.{Message, RegionModified}
 use Rattle.qws_base.specs.declared.replies.Reply.{Reply}
 use Rattle.qws_base.specs.declared.replies.Reply.TheVariants as reply
 use Rattle.qws_frames.specs.Layout.{u16_at, u32_at}
@@ -120,18 +120,30 @@ letter_refusal channel message payload =
 
 -- why a command has no frame
 abbrev pub command_refusal : Command → Option EncodeStop
+command_refusal (Create layer) = None
+command_refusal (Destroy slot) = None
 command_refusal (Region slot origin rects) = raw_refusal (16 * length rects)
+command_refusal (Move slot origin) = None
+command_refusal (Raise slot) = None
+command_refusal (Lower slot) = None
 command_refusal (CursorShape w h cells) = raw_refusal (4 * length cells)
+command_refusal (CursorMove x y) = None
+command_refusal (CursorShow shown) = None
 command_refusal (Join channel) = raw_refusal (length channel)
 command_refusal (Leave channel) = raw_refusal (length channel)
 command_refusal (Send channel message payload) = letter_refusal (length channel) (length message) (length payload)
+command_refusal Take = None
 command_refusal (IsRegistered channel) = raw_refusal (length channel)
-command_refusal _ = None
 
 -- why a reply has no frame
 abbrev pub reply_refusal : Reply → Option EncodeStop
+reply_refusal (reply.Created slot) = None
+reply_refusal reply.Done = None
+reply_refusal (reply.Sent to) = None
+reply_refusal (reply.Registered known) = None
 reply_refusal (reply.Event (Message channel from message payload)) = letter_refusal (length channel) (length message) (length payload)
-reply_refusal _ = None
+reply_refusal (reply.Event (RegionModified slot)) = None
+reply_refusal (reply.Refused cause) = None
 
 -- the cause for which there is no frame; none where there is one, or where memory lacked alone
 abbrev pub encode_stop_of : EncodeStop → Option EncodeStop

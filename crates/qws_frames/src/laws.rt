@@ -1,5 +1,7 @@
 //! Laws of the grammar of frames. Each function does nothing; its clause is the law.
 ghost use Rattle.std.specs.Prelude.{◌≡◌, false, true, None};
+ghost use Rattle.qws_base.specs.declared.commands.Command.{Command};
+ghost use Rattle.qws_base.specs.declared.replies.Reply.{Reply};
 ghost use Rattle.qws_frames.specs.Layout.{SpellsCommand, SpellsReply};
 ghost use Rattle.qws_frames.specs.Stops.{frame_refusal};
 
@@ -64,5 +66,21 @@ pub fn spelled_reply_passes(reply: &Reply, bytes: &[u8])
     ensures { frame_refusal true bytes.now ≡ None }
 {
     let _ = reply;
+    let _ = bytes;
+}
+
+/// Bytes that no cause refuses spell a command.
+pub fn unrefused_bytes_spell_a_command(bytes: &[u8])
+    requires { frame_refusal false bytes.now ≡ None }
+    ensures { (command : Command) × SpellsCommand command bytes.now }
+{
+    let _ = bytes;
+}
+
+/// Bytes that no cause refuses spell a reply.
+pub fn unrefused_bytes_spell_a_reply(bytes: &[u8])
+    requires { frame_refusal true bytes.now ≡ None }
+    ensures { (reply : Reply) × SpellsReply reply bytes.now }
+{
     let _ = bytes;
 }
