@@ -1,0 +1,6 @@
+pub mod MergeLemmas
+pub mod LineLemmas
+pub mod NumberLemmas
+pub mod PlaceLemmas
+pub mod StepLemmas
+pub mod LeaveLemmas

@@ -1,0 +1,5 @@
+pub mod Texts
+pub mod Printed
+pub mod Grammar
+pub mod Merging
+pub mod Places
