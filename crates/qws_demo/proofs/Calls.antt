@@ -11,7 +11,6 @@ use Rattle.qws_base.specs.Histories.{Entry, World, calls_of, world_after}
 use Rattle.window_core.specs.CoreViews.{CoreView}
 use Rattle.pixel_model.specs.Drawn.{Drawn}
 use Rattle.session_script.specs.Session.{Session, session_setting, is_by, lines_by, call_line}
-use Rattle.session_script.specs.Limits.{IsSession}
 use Rattle.session_script.specs.Meaning.{meaning}
 use Rattle.session_script.specs.declared.lines.CallLine.{CallLine}
 use Rattle.session_script.specs.declared.names.Place.{Place}
@@ -19,10 +18,9 @@ use Rattle.session_script.specs.declared.names.Call.{Call}
 use Rattle.qws_demo.specs.declared.answers.Answer.{Answer}
 use Rattle.qws_demo.specs.declared.callers.Caller.{Caller}
 use Rattle.qws_demo.specs.Runs.{entry_in, places_in, front, line_at, line_entry}
-use Rattle.qws_demo.specs.Steps.{learned_by_answer, IsMakeable, IsCaller, AreCallers, IsWorld}
+use Rattle.qws_demo.specs.Steps.{learned_by_answer, IsCaller, AreCallers, IsWorld}
 use Rattle.qws_demo.proofs.Front.{no_line, same_count, front_clients}
 use Rattle.qws_demo.proofs.Turns.{next_line, has_next}
-use Rattle.qws_demo.proofs.Plannable.{makeable}
 
 some_same : {A B : Type 0} (f : A → B) (o : Option A) (x : A) (y : B) → o ≡ Some x → option_map f o ≡ Some y → y ≡ f x
 some_same f None x y found made = cc
@@ -62,11 +60,6 @@ caller_call session j callers client caller call below are by_client known found
 pub caller_learned : (session : Session) (j : ℕ) (callers : List Caller) (client : ℕ) (caller : Caller) (answer : Answer) (places : List Place) → j < length session.calls → AreCallers session (front session j) callers → client ≡ (line_at session j).client → client < session.clients → caller ≡ get_or callers client caller → option_map (λ line. learned_by_answer caller.names.places line.call answer) (call_line session caller.names.client caller.made) ≡ Some places → places ≡ learned_by_answer caller.names.places (line_at session j).call answer
 caller_learned session j callers client caller answer places below are by_client known found made =
     some_same (λ (l : CallLine). learned_by_answer caller.names.places l.call answer) (call_line session caller.names.client caller.made) (line_at session j) places (caller_line session j callers client caller below are by_client known found) made
-
--- it can be made in the state that the core has
-pub call_makeable : (session : Session) (j client : ℕ) (call : Call) (core : CoreView) (canvas : Drawn) → j < length session.calls → IsSession session → call ≡ meaning (places_in session (front session j) client) (line_at session j).call → IsWorld session (front session j) core canvas → IsMakeable core.state call
-call_makeable session j client call core canvas below limits is world =
-    subst (IsMakeable core.state) (sym is) (subst (λ (s : State). IsMakeable s (meaning (places_in session (front session j) client) (line_at session j).call)) (sym world.state) (makeable session j (places_in session (front session j) client) limits below))
 
 -- a fact on the entry of a call in the world of core and canvas is one on the entry of the line
 pub on_line : (F : Setting → World → Entry → Type 0) (session : Session) (j client : ℕ) (call : Call) (core : CoreView) (canvas : Drawn) → client ≡ (line_at session j).client → call ≡ meaning (places_in session (front session j) client) (line_at session j).call → IsWorld session (front session j) core canvas

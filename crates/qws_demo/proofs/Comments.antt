@@ -11,7 +11,7 @@ use Rattle.std.proofs.lemmas.Fmt.{decimal_is_IsNumeral}
 use Rattle.std.proofs.lemmas.List.Folds.{list_all-append}
 use Rattle.std.proofs.lemmas.Bool.Decides.{nat_tests}
 use Rattle.qws_base.specs.Sides.{Sides}
-use Rattle.qws_base.specs.Histories.{Entry, client_of, calls_of}
+use Rattle.qws_base.specs.Histories.{Entry, client_of_entry, calls_of}
 use Rattle.session_script.specs.Words.{is_digit}
 use Rattle.qws_base.specs.declared.replies.Event.{Event}
 use Rattle.qws_base.specs.declared.replies.Event.TheVariants.{Message, RegionModified}
@@ -162,11 +162,11 @@ client_back client number words small =
     ap (digits_value 10) (digits_front (decimal client) (decimal number ++ (codes " " ++ words)) (decimal_passes client small).0)
     ∙ (decimal_is_IsNumeral client small).1
 
-clients_back : (before h : List Entry) → All (λ e. client_of e < 2 ^ 64) h → map commented_client (comments_behind before h) ≡ map client_of h
+clients_back : (before h : List Entry) → All (λ e. client_of_entry e < 2 ^ 64) h → map commented_client (comments_behind before h) ≡ map client_of_entry h
 clients_back before [] small = refl
 clients_back before (e ∷ h) small =
-    ap (λ k. k ∷ map commented_client (comments_behind (before ++ e ∷ []) h)) (client_back (client_of e) (length (calls_of before (client_of e))) (entry_words e) (small 0 e (omega arith)))
-    ∙ ap (λ l. client_of e ∷ l) (clients_back (before ++ e ∷ []) h (λ k d below. small (suc k) d (omega arith)))
+    ap (λ k. k ∷ map commented_client (comments_behind (before ++ e ∷ []) h)) (client_back (client_of_entry e) (length (calls_of before (client_of_entry e))) (entry_words e) (small 0 e (omega arith)))
+    ∙ ap (λ l. client_of_entry e ∷ l) (clients_back (before ++ e ∷ []) h (λ k d below. small (suc k) d (omega arith)))
 
 -- a text that begins with a digit has no comment in front
 digit_first : (text rest : List ℕ) → 0 < length text → list_all is_digit text ≡ true → front_comments (lines_of (text ++ rest)) ≡ []
@@ -174,7 +174,7 @@ digit_first [] rest some h = absurd (omega arith)
 digit_first (c ∷ text) rest some h = not_comment c (lines_of (text ++ rest)) (both (is_digit c) (list_all is_digit text) h).0
 
 -- the comments of a file are those of its history, and name its clients
-pub file_clients : (size : Sides) (h : List Entry) (shown : List ℕ) → size.w < 2 ^ 64 → All (λ e. client_of e < 2 ^ 64) h → All IsInside (comments h) → map commented_client (comments_of (file_text (comments h) size shown)) ≡ map client_of h
+pub file_clients : (size : Sides) (h : List Entry) (shown : List ℕ) → size.w < 2 ^ 64 → All (λ e. client_of_entry e < 2 ^ 64) h → All IsInside (comments h) → map commented_client (comments_of (file_text (comments h) size shown)) ≡ map client_of_entry h
 unfolding file_text comments_of
 file_clients size h shown small clients inside =
     ap (map commented_client) (comments_back [] h (head_text size ++ flat_map colour_bytes shown)

@@ -1,21 +1,13 @@
 -- The opening of a run, and its file.
-use Rattle.std.proofs.Common.{◌≡◌, ℕ, ◌<◌, ◌^◌, List, [], ◌∷◌, ◌++◌, map, length, Option, None, Some, Bool, true, false, refl, ap, sym, ◌∙◌, subst, arith, append_assoc}
+use Rattle.std.proofs.Common.{◌≡◌, ℕ, ◌<◌, ◌^◌, List, [], ◌∷◌, ◌++◌, map, length, refl, ap, sym, ◌∙◌, subst, arith, append_assoc}
 use Rattle.std.specs.Prelude.{All}
 use lib.Chars.{codes}
 use Rattle.std.specs.List.{flat_map}
 use Rattle.std.proofs.lemmas.List.Elements.{All-weaker}
 use Rattle.std.proofs.lemmas.Option.{get_or_from_slice_get}
 use Rattle.qws_base.specs.Sides.{Sides}
-use Rattle.qws_base.specs.Windows.{is_live}
-use Rattle.qws_base.specs.States.{State, step, create_step, region_step, free_slot, opening_cursor}
-use Rattle.qws_base.specs.Scenes.{Setting}
-use Rattle.qws_base.specs.Histories.{Entry, World, client_of, next_world, opening_world, world_from, world_after}
-use Rattle.qws_base.specs.Histories.Entry.{Step as StepEntry, Paint as PaintEntry}
-use Rattle.qws_base.specs.declared.points.Point.{Point}
-use Rattle.qws_base.specs.declared.points.Rect.{Rect}
-use Rattle.qws_base.specs.declared.commands.Command.{Command}
-use Rattle.qws_base.specs.declared.commands.Command.TheVariants.{Create, Destroy, Region, Move, Raise, Lower, CursorShape, CursorMove, CursorShow, Join, Leave, Send, Take, IsRegistered}
-use Rattle.session_script.specs.Session.{Session, session_setting, lines_by}
+use Rattle.qws_base.specs.Histories.{Entry, client_of_entry}
+use Rattle.session_script.specs.Session.{Session, lines_by}
 use Rattle.session_script.specs.Limits.{IsSession}
 use Rattle.session_script.specs.Meaning.{places_after}
 use Rattle.session_script.specs.declared.lines.CallLine.{CallLine}
@@ -43,43 +35,6 @@ opening_callers session callers many each = record {
       (record { client_is = refl; places = sym (no_places (lines_by session client)); made = refl });
 }
 
--- ---- no command changes the cursor so far
-
-create_cursor : (state : State) (client layer : ℕ) (slot : Option ℕ) → (create_step state client layer slot).0.cursor ≡ state.cursor
-create_cursor state client layer None = refl
-create_cursor state client layer (Some slot) = refl
-
-region_cursor : (state : State) (slot : ℕ) (origin : Point) (rects : List Rect) (live : Bool) → (region_step state slot origin rects live).0.cursor ≡ state.cursor
-region_cursor state slot origin rects true = refl
-region_cursor state slot origin rects false = refl
-
-step_cursor : (state : State) (client : ℕ) (command : Command) → (step state client command).0.cursor ≡ state.cursor
-step_cursor state client (Create layer) = create_cursor state client layer (free_slot state.windows)
-step_cursor state client (Destroy slot) = refl
-step_cursor state client (Region slot origin rects) = region_cursor state slot origin rects (is_live state.windows slot)
-step_cursor state client (Move slot origin) = refl
-step_cursor state client (Raise slot) = refl
-step_cursor state client (Lower slot) = refl
-step_cursor state client (CursorShape w h cells) = refl
-step_cursor state client (CursorMove x y) = refl
-step_cursor state client (CursorShow shown) = refl
-step_cursor state client (Join channel) = refl
-step_cursor state client (Leave channel) = refl
-step_cursor state client (Send channel message payload) = refl
-step_cursor state client Take = refl
-step_cursor state client (IsRegistered channel) = refl
-
-next_cursor : (setting : Setting) (world : World) (e : Entry) → (next_world setting world e).state.cursor ≡ world.state.cursor
-next_cursor setting world (StepEntry client command reply) = step_cursor world.state client command
-next_cursor setting world (PaintEntry client slot tag sheet reply) = refl
-
-world_cursor : (setting : Setting) (world : World) (h : List Entry) → (world_from setting world h).state.cursor ≡ world.state.cursor
-world_cursor setting world [] = refl
-world_cursor setting world (e ∷ h) = world_cursor setting (next_world setting world e) h ∙ next_cursor setting world e
-
-pub cursor_after : (session : Session) (h : List Entry) → (world_after (session_setting session) h).state.cursor ≡ opening_cursor
-cursor_after session h = world_cursor (session_setting session) (opening_world (session_setting session)) h
-
 -- ---- the file
 
 pub finished : (session : Session) (h : List Entry) (text : List ℕ) (size : Sides) (shown new : List ℕ) → text ≡ codes "P6\n" ++ flat_map ended (comments h) → size ≡ session.size → shown ≡ shown_after session h → new ≡ (text ++ head_text size) ++ flat_map colour_bytes shown → new ≡ file_of session h
@@ -97,9 +52,9 @@ pub file_is : (session : Session) (text file : List ℕ) → IsSession session �
 file_is session text file limits commented is =
     let h : List Entry = in_order session in
     let run : IsRunOf session h = in_order_run session limits in
-    let small : All (λ (e : Entry). client_of e < 2 ^ 64) h = All-weaker (λ (e : Entry). client_of e < session.clients) (λ (e : Entry). client_of e < 2 ^ 64) (λ e below. omega (arith, limits.clients)) h run.no_other in
+    let small : All (λ (e : Entry). client_of_entry e < 2 ^ 64) h = All-weaker (λ (e : Entry). client_of_entry e < session.clients) (λ (e : Entry). client_of_entry e < 2 ^ 64) (λ e below. omega (arith, limits.clients)) h run.no_other in
     let inside : All IsInside (comments h) = subst (λ (k : List Entry). All IsInside (comments k)) (all_front session) commented.inside in
     let names : map commented_client (comments_of file) ≡ map (λ (l : CallLine). l.client) session.calls =
     ap (λ (f : List ℕ). map commented_client (comments_of f)) is ∙ file_clients session.size h (shown_after session h) (omega (arith, limits.screen.most_w)) small inside ∙ in_order_clients session in
-    let same : named_by session file ≡ h = ap (named session) names in
+    let same : named_by session (comments_of file) ≡ h = ap (named session) names in
     record { text = is ∙ ap (file_of session) (sym same); run = subst (IsRunOf session) (sym same) run }

@@ -7,7 +7,7 @@ use Rattle.std.proofs.lemmas.List.{take_more, map-append}
 use Rattle.std.proofs.Math.Seq.{take-length}
 use Rattle.std.proofs.lemmas.List.Elements.{All-cons, All-nil}
 use Rattle.std.proofs.lemmas.Bool.{eq-eqb}
-use Rattle.qws_base.specs.Histories.{Entry, client_of, calls_of, world_after}
+use Rattle.qws_base.specs.Histories.{Entry, client_of_entry, calls_of, world_after}
 use Rattle.session_script.specs.Session.{Session, session_setting, is_by, lines_by, call_line}
 use Rattle.session_script.specs.Limits.{IsSession, IsLine}
 use Rattle.session_script.specs.declared.lines.CallLine.{CallLine}
@@ -30,14 +30,14 @@ kth p (x ∷ xs) (suc j) d below passes = by_test (p x) (kth p xs j d (omega ari
     by_test false found = found
 
 -- a client has as many calls as lines where the clients stand in the same order
-pub same_count : (client : ℕ) (h : List Entry) (lines : List CallLine) → map client_of h ≡ map (λ l. l.client) lines → length (calls_of h client) ≡ length (filter (is_by client) lines)
+pub same_count : (client : ℕ) (h : List Entry) (lines : List CallLine) → map client_of_entry h ≡ map (λ l. l.client) lines → length (calls_of h client) ≡ length (filter (is_by client) lines)
 same_count client [] [] same = refl
 same_count client [] (l ∷ lines) same = cc
 same_count client (e ∷ h) [] same = cc
 same_count client (e ∷ h) (l ∷ lines) same =
-    let first : client_of e ≡ l.client = cc in
-    let rest : map client_of h ≡ map (λ (l : CallLine). l.client) lines = cc in
-    one_more (client_of e == client) (l.client == client) (calls_of h client) (filter (is_by client) lines) (ap (λ k. k == client) first) (same_count client h lines rest)
+    let first : client_of_entry e ≡ l.client = cc in
+    let rest : map client_of_entry h ≡ map (λ (l : CallLine). l.client) lines = cc in
+    one_more (client_of_entry e == client) (l.client == client) (calls_of h client) (filter (is_by client) lines) (ap (λ k. k == client) first) (same_count client h lines rest)
   where
     one_more : (b d : Bool) (es : List Entry) (ls : List CallLine) → b ≡ d → length es ≡ length ls → length (cond b (e ∷ es) es) ≡ length (cond d (l ∷ ls) ls)
     one_more true true es ls same_test many = ap suc many
@@ -46,30 +46,30 @@ same_count client (e ∷ h) (l ∷ lines) same =
     one_more false true es ls same_test many = cc
 
 -- the line of a client's next call, where the lines before have made their calls
-pub next_line_is : (session : Session) (j : ℕ) → j < length session.calls → map client_of (front session j) ≡ first_clients session j → call_line session (line_at session j).client (length (calls_of (front session j) (line_at session j).client)) ≡ Some (line_at session j)
+pub next_line_is : (session : Session) (j : ℕ) → j < length session.calls → map client_of_entry (front session j) ≡ first_clients session j → call_line session (line_at session j).client (length (calls_of (front session j) (line_at session j).client)) ≡ Some (line_at session j)
 next_line_is session j below same =
     let line : CallLine = line_at session j in
     ap (slice_get (lines_by session line.client)) (same_count line.client (front session j) (take j session.calls) same)
     ∙ kth (is_by line.client) session.calls j no_line below (eq-eqb line.client line.client refl)
 
 -- one more line
-pub front_more : (session : Session) (j : ℕ) → j < length session.calls → map client_of (front session j) ≡ first_clients session j → front session (j + 1) ≡ front session j ++ entry_behind session (front session j) (line_at session j).client (line_at session j) ∷ []
+pub front_more : (session : Session) (j : ℕ) → j < length session.calls → map client_of_entry (front session j) ≡ first_clients session j → front session (j + 1) ≡ front session j ++ entry_behind session (front session j) (line_at session j).client (line_at session j) ∷ []
 front_more session j below same =
     let line : CallLine = line_at session j in
     ap (named session) (ap (map (λ (l : CallLine). l.client)) (take_more session.calls j no_line below) ∙ map-append (λ (l : CallLine). l.client) (take j session.calls) (line ∷ []))
     ∙ named_more session [] (first_clients session j) line.client
     ∙ ap (λ (o : Option Entry). front session j ++ option_to_list o) (ap (option_map (entry_behind session (front session j) line.client)) (next_line_is session j below same))
 
-pub front_clients : (session : Session) (j : ℕ) → j ≤ length session.calls → map client_of (front session j) ≡ first_clients session j
+pub front_clients : (session : Session) (j : ℕ) → j ≤ length session.calls → map client_of_entry (front session j) ≡ first_clients session j
 front_clients session zero within = refl
 front_clients session (suc j) within =
     let line : CallLine = line_at session j in
     let so_far = front_clients session j (omega arith) in
     let below : j < length session.calls = omega arith in
     rw (← add-one) (
-    ap (map client_of) (front_more session j below so_far)
-    ∙ map-append client_of (front session j) _
-    ∙ ap (λ (cs : List ℕ). cs ++ client_of (entry_behind session (front session j) line.client line) ∷ []) so_far
+    ap (map client_of_entry) (front_more session j below so_far)
+    ∙ map-append client_of_entry (front session j) _
+    ∙ ap (λ (cs : List ℕ). cs ++ client_of_entry (entry_behind session (front session j) line.client line) ∷ []) so_far
     ∙ ap (λ c. first_clients session j ++ c ∷ []) (entry_client (session_setting session) (world_after (session_setting session) (front session j)) line.client (length (calls_of (front session j) line.client)) _)
     ∙ sym (ap (map (λ (l : CallLine). l.client)) (take_more session.calls j no_line below) ∙ map-append (λ (l : CallLine). l.client) (take j session.calls) (line ∷ [])))
 
@@ -77,17 +77,17 @@ front_clients session (suc j) within =
 pub all_front : (session : Session) → front session (length session.calls) ≡ in_order session
 all_front session = ap (λ (ls : List CallLine). named session (map (λ (l : CallLine). l.client) ls)) (take-length session.calls)
 
-pub in_order_clients : (session : Session) → map client_of (in_order session) ≡ map (λ l. l.client) session.calls
+pub in_order_clients : (session : Session) → map client_of_entry (in_order session) ≡ map (λ l. l.client) session.calls
 in_order_clients session =
-    ap (map client_of) (sym (all_front session)) ∙ front_clients session (length session.calls) (omega arith) ∙ ap (map (λ (l : CallLine). l.client)) (take-length session.calls)
+    ap (map client_of_entry) (sym (all_front session)) ∙ front_clients session (length session.calls) (omega arith) ∙ ap (map (λ (l : CallLine). l.client)) (take-length session.calls)
 
-others : (clients : ℕ) (h : List Entry) (lines : List CallLine) → map client_of h ≡ map (λ l. l.client) lines → All (IsLine clients) lines → All (λ e. client_of e < clients) h
-others clients [] lines same each = All-nil (λ e. client_of e < clients)
+others : (clients : ℕ) (h : List Entry) (lines : List CallLine) → map client_of_entry h ≡ map (λ l. l.client) lines → All (IsLine clients) lines → All (λ e. client_of_entry e < clients) h
+others clients [] lines same each = All-nil (λ e. client_of_entry e < clients)
 others clients (e ∷ h) [] same each = cc
 others clients (e ∷ h) (l ∷ lines) same each =
-    let first : client_of e ≡ l.client = cc in
-    let rest : map client_of h ≡ map (λ (l : CallLine). l.client) lines = cc in
-    All-cons (λ e. client_of e < clients) e h (subst (λ c. c < clients) (sym first) (each 0 l (omega arith)).client)
+    let first : client_of_entry e ≡ l.client = cc in
+    let rest : map client_of_entry h ≡ map (λ (l : CallLine). l.client) lines = cc in
+    All-cons (λ e. client_of_entry e < clients) e h (subst (λ c. c < clients) (sym first) (each 0 l (omega arith)).client)
     (others clients h lines rest (λ k d below. each (suc k) d (omega arith)))
 
 -- the calls in the order of the lines are a run of the session

@@ -7,7 +7,7 @@ use Rattle.std.proofs.lemmas.List.Elements.{filter-append}
 use Rattle.std.proofs.lemmas.Option.{slice_get_within, get_or_from_slice_get}
 use Rattle.std.proofs.lemmas.Bool.Decides.{nat_tests}
 use Rattle.qws_base.specs.Scenes.{Setting}
-use Rattle.qws_base.specs.Histories.{Entry, World, client_of, calls_of, next_world, Answers, world_from, world_after, opening_world, IsLegalFrom, IsLegal}
+use Rattle.qws_base.specs.Histories.{Entry, World, client_of_entry, calls_of, next_world, Answers, world_from, world_after, opening_world, IsLegalFrom, IsLegal}
 use Rattle.session_script.specs.Session.{Session, session_setting, lines_by, call_line}
 use Rattle.session_script.specs.Meaning.{meaning, learned_by_entry, places_after}
 use Rattle.session_script.specs.declared.lines.CallLine.{CallLine}
@@ -54,7 +54,7 @@ is_next session h client e is = by_option (call_line session client (length (cal
     by_option None found made = cc
     by_option (Some line) found made = record { line = line; is_line = found; is_entry = cc }
 
-pub entry_client : (setting : Setting) (world : World) (client k : ℕ) (call : Call) → client_of (entry_in setting world client k call) ≡ client
+pub entry_client : (setting : Setting) (world : World) (client k : ℕ) (call : Call) → client_of_entry (entry_in setting world client k call) ≡ client
 entry_client setting world client k (Step command) = refl
 entry_client setting world client k (Paint slot paint) = refl
 
@@ -81,8 +81,8 @@ named_legal session clients =
 
 -- ---- a client's calls
 
-pub calls_more : (h : List Entry) (e : Entry) (client : ℕ) → calls_of (h ++ e ∷ []) client ≡ calls_of h client ++ cond (client_of e == client) (e ∷ []) []
-calls_more h e client = filter-append (λ (e : Entry). client_of e == client) h (e ∷ [])
+pub calls_more : (h : List Entry) (e : Entry) (client : ℕ) → calls_of (h ++ e ∷ []) client ≡ calls_of h client ++ cond (client_of_entry e == client) (e ∷ []) []
+calls_more h e client = filter-append (λ (e : Entry). client_of_entry e == client) h (e ∷ [])
 
 calls_snoc : (client k : ℕ) (places : List Place) (lines : List CallLine) (entries : List Entry) (line : CallLine) (e : Entry) → IsCallsFrom client k places lines entries → IsCallOf client (k + length entries) (meaning (places_after places lines entries) line.call) e → IsCallsFrom client k places (lines ++ line ∷ []) (entries ++ e ∷ [])
 calls_snoc client k places [] [] line e so_far is = (subst (λ m. IsCallOf client m (meaning places line.call) e) (add-zero k) is, tt)
@@ -137,7 +137,7 @@ named_so_far session client clients =
     step : (h : List Entry) (c : ℕ) (e : Entry) → IsNext session h c e → IsSoFar session client h → (b : Bool) → (c == client) ≡ b → IsSoFar session client (h ++ e ∷ [])
     step h c e next so_far true same =
         let is : c ≡ client = grind (arith, nat_tests) in
-        let made : client_of e ≡ c = ap client_of next.is_entry ∙ entry_client (session_setting session) (world_after (session_setting session) h) c (length (calls_of h c)) (meaning (places_in session h c) next.line.call) in
+        let made : client_of_entry e ≡ c = ap client_of_entry next.is_entry ∙ entry_client (session_setting session) (world_after (session_setting session) h) c (length (calls_of h c)) (meaning (places_in session h c) next.line.call) in
         so_far_own session client h (h ++ e ∷ []) next.line e
         (calls_more h e client ∙ ap (λ k. calls_of h client ++ cond (k == client) (e ∷ []) []) made ∙ ap (λ b. calls_of h client ++ cond b (e ∷ []) []) same)
         (subst (λ k. call_line session k (length (calls_of h k)) ≡ Some next.line) is next.is_line)
@@ -145,7 +145,7 @@ named_so_far session client clients =
         (subst (IsCallOf c (length (calls_of h c)) (meaning (places_in session h c) next.line.call)) (sym next.is_entry) (entry_is_call (session_setting session) (world_after (session_setting session) h) c (length (calls_of h c)) (meaning (places_in session h c) next.line.call))))
         so_far
     step h c e next so_far false other =
-        let made : client_of e ≡ c = ap client_of next.is_entry ∙ entry_client (session_setting session) (world_after (session_setting session) h) c (length (calls_of h c)) (meaning (places_in session h c) next.line.call) in
+        let made : client_of_entry e ≡ c = ap client_of_entry next.is_entry ∙ entry_client (session_setting session) (world_after (session_setting session) h) c (length (calls_of h c)) (meaning (places_in session h c) next.line.call) in
         so_far_same session client h (h ++ e ∷ [])
         (calls_more h e client ∙ ap (λ k. calls_of h client ++ cond (k == client) (e ∷ []) []) made ∙ ap (λ b. calls_of h client ++ cond b (e ∷ []) []) other ∙ append-nil (calls_of h client))
         so_far

@@ -10,7 +10,7 @@ use Rattle.std.proofs.lemmas.Option.{slice_get_within}
 use Rattle.std.proofs.lemmas.Bool.{cases_eq, eq-eqb}
 use Rattle.std.proofs.lemmas.Bool.Decides.{nat_tests}
 use Rattle.qws_base.specs.Scenes.{Setting}
-use Rattle.qws_base.specs.Histories.{Entry, World, client_of, calls_of, next_world, opening_world, world_after}
+use Rattle.qws_base.specs.Histories.{Entry, World, client_of_entry, calls_of, next_world, opening_world, world_after}
 use Rattle.qws_base.specs.Histories.Entry.{Step as StepEntry, Paint as PaintEntry}
 use Rattle.window_core.specs.CoreViews.{CoreView}
 use Rattle.pixel_model.specs.Drawn.{Drawn}
@@ -31,7 +31,7 @@ use Rattle.qws_demo.proofs.Front.{front_more, front_clients, next_line_is}
 pub front_next : (session : Session) (j : ℕ) → j < length session.calls → front session (j + 1) ≡ front session j ++ line_entry session j ∷ []
 front_next session j below = front_more session j below (front_clients session j (omega arith))
 
-line_entry_client : (session : Session) (j : ℕ) → client_of (line_entry session j) ≡ (line_at session j).client
+line_entry_client : (session : Session) (j : ℕ) → client_of_entry (line_entry session j) ≡ (line_at session j).client
 line_entry_client session j = entry_client (session_setting session) (world_after (session_setting session) (front session j)) (line_at session j).client (length (calls_of (front session j) (line_at session j).client)) (meaning (places_in session (front session j) (line_at session j).client) (line_at session j).call)
 
 pub next_line : (session : Session) (j : ℕ) → j < length session.calls → call_line session (line_at session j).client (length (calls_of (front session j) (line_at session j).client)) ≡ Some (line_at session j)
@@ -70,7 +70,7 @@ commented_next session j text new client made answer below is by_client number a
     let h : List Entry = front session j in
     let e : Entry = line_entry session j in
     let line : List ℕ = comment client made (answer_words answer) in
-    let who : client ≡ client_of e = by_client ∙ sym (line_entry_client session j) in
+    let who : client ≡ client_of_entry e = by_client ∙ sym (line_entry_client session j) in
     let same : line ≡ comment_behind h e =
     ap (λ (a : Answer). comment client made (answer_words a)) answered
     ∙ ap (λ (w : List ℕ). comment client made w) (sym (words_of_answer e))
@@ -97,7 +97,7 @@ places_snoc places (l ∷ []) [] line e found = let is : l ≡ line = cc in ap (
 places_snoc places (l ∷ m ∷ lines) [] line e found = let is : l ≡ line = cc in ap (λ (x : CallLine). learned_by_entry places x.call e) is
 places_snoc places (l ∷ lines) (f ∷ entries) line e found = places_snoc (learned_by_entry places l.call f) lines entries line e found
 
-other_caller : (session : Session) (h : List Entry) (e : Entry) (client : ℕ) (caller : Caller) → (client_of e == client) ≡ false → IsCaller session h client caller → IsCaller session (h ++ e ∷ []) client caller
+other_caller : (session : Session) (h : List Entry) (e : Entry) (client : ℕ) (caller : Caller) → (client_of_entry e == client) ≡ false → IsCaller session h client caller → IsCaller session (h ++ e ∷ []) client caller
 other_caller session h e client caller other is =
     let same : calls_of (h ++ e ∷ []) client ≡ calls_of h client = calls_more h e client ∙ ap (λ b. calls_of h client ++ cond b (e ∷ []) []) other ∙ append-nil (calls_of h client) in
     record {
@@ -106,9 +106,9 @@ other_caller session h e client caller other is =
       made = is.made ∙ ap length (sym same);
     }
 
-own_caller : (session : Session) (h : List Entry) (e : Entry) (client : ℕ) (caller new : Caller) (line : CallLine) → client_of e ≡ client → call_line session client (length (calls_of h client)) ≡ Some line → IsCaller session h client caller → new.names.client ≡ client → new.made ≡ caller.made + 1 → new.names.places ≡ learned_by_entry caller.names.places line.call e → IsCaller session (h ++ e ∷ []) client new
+own_caller : (session : Session) (h : List Entry) (e : Entry) (client : ℕ) (caller new : Caller) (line : CallLine) → client_of_entry e ≡ client → call_line session client (length (calls_of h client)) ≡ Some line → IsCaller session h client caller → new.names.client ≡ client → new.made ≡ caller.made + 1 → new.names.places ≡ learned_by_entry caller.names.places line.call e → IsCaller session (h ++ e ∷ []) client new
 own_caller session h e client caller new line own found is stays more learns =
-    let same : calls_of (h ++ e ∷ []) client ≡ calls_of h client ++ e ∷ [] = calls_more h e client ∙ ap (λ b. calls_of h client ++ cond b (e ∷ []) []) (eq-eqb (client_of e) client own) in
+    let same : calls_of (h ++ e ∷ []) client ≡ calls_of h client ++ e ∷ [] = calls_more h e client ∙ ap (λ b. calls_of h client ++ cond b (e ∷ []) []) (eq-eqb (client_of_entry e) client own) in
     record {
       client_is = stays;
       places = learns ∙ ap (λ (ps : List Place). learned_by_entry ps line.call e) is.places ∙ sym (places_snoc [] (lines_by session client) (calls_of h client) line e found) ∙ ap (places_after [] (lines_by session client)) (sym same);
@@ -127,6 +127,6 @@ callers_next session j callers client caller new answer below are by_client with
         | inl same ↦ subst (λ (x : Caller). IsCaller session (h ++ e ∷ []) c x) (sym (ap (λ (k : ℕ). get_or (set callers client new) k d) same ∙ get_or-set_same callers client new d (omega (arith, are.many))))
             (subst (λ (k : ℕ). IsCaller session (h ++ e ∷ []) k new) (sym same) (own_caller session h e client caller new line (line_entry_client session j ∙ sym by_client) (subst (λ (k : ℕ). call_line session k (length (calls_of h k)) ≡ Some line) (sym by_client) (next_line session j below)) mine (stays ∙ mine.client_is) more
             (learns ∙ ap (learned_by_answer caller.names.places line.call) answered ∙ sym (learned_same caller.names.places line.call e))))
-        | inr apart ↦ subst (λ (x : Caller). IsCaller session (h ++ e ∷ []) c x) (sym (get_or-set_other callers client c new d apart)) (other_caller session h e c (get_or callers c d) (let e_client : client_of e ≡ client = line_entry_client session j ∙ sym by_client in grind (arith, nat_tests)) (are.each c d known))
+        | inr apart ↦ subst (λ (x : Caller). IsCaller session (h ++ e ∷ []) c x) (sym (get_or-set_other callers client c new d apart)) (other_caller session h e c (get_or callers c d) (let e_client : client_of_entry e ≡ client = line_entry_client session j ∙ sym by_client in grind (arith, nat_tests)) (are.each c d known))
       ];
     })

@@ -47,11 +47,11 @@ front_digits (c ∷ cs) = if is_digit c then c ∷ front_digits cs else []
 unfoldable pub commented_client : List ℕ → ℕ
 commented_client line = digits_value 10 (front_digits (drop 2 line))
 
--- the history that the comments of a file name: each stands for the next call of its client
-abbrev pub named_by : Session → List ℕ → List Entry
-named_by session file = named session (map commented_client (comments_of file))
+-- the history that comment lines name: each stands for the next call of its client
+abbrev pub named_by : Session → List (List ℕ) → List Entry
+named_by session lines = named session (map commented_client lines)
 
 -- the file is that of the history that its comments name, and that is a run of the session
 pub record IsFileOf (session : Session) (file : List ℕ) : Type 0 where
-  pub text : file ≡ file_of session (named_by session file)
-  pub run : IsRunOf session (named_by session file)
+  pub text : file ≡ file_of session (named_by session (comments_of file))
+  pub run : IsRunOf session (named_by session (comments_of file))

@@ -1,5 +1,5 @@
 -- What the program reads and writes.
-use Rattle.std.specs.Prelude.{ℕ, ◌≡◌, ◌≤◌, ◌<◌, ◌⊎◌, List, [], ◌∷◌, ◌++◌, length, IsOk, IsErr, Option, None, Some, ⊤, Bool, true, false, Ok, String, string_bytes}
+use Rattle.std.specs.Prelude.{ℕ, ◌≡◌, ◌≤◌, ◌<◌, List, [], ◌∷◌, ◌++◌, length, IsOk, IsErr, Option, None, Some, ⊤, Bool, true, false, Ok, String, string_bytes}
 use lib.Chars.{codes}
 use Rattle.std.specs.Str.{bytes_eq}
 use Rattle.std.specs.declared.alloc.Global.{Global}
@@ -9,18 +9,20 @@ use Rattle.qws_base.specs.Outside.{WritesFront}
 use Rattle.qws_demo.specs.Runs.{in_order}
 use Rattle.qws_demo.specs.Files.{file_of, IsFileOf}
 
--- the bytes that were read spell a script, and what was written is a file of it: that of the calls in the order of their lines
-pub record Shows (read written : List ℕ) : Type 0 where
+-- The bytes that were read are at most that many and spell a script, and what was written is a file of it: with at most one
+-- client that of the calls in the order of their lines.
+pub record Shows (limit : ℕ) (read written : List ℕ) : Type 0 where
+  pub within : length read ≤ limit
   pub session : Session
   pub spelled : script_of read ≡ Ok session
   pub file : IsFileOf session written
-  pub ordered : written ≡ file_of session (in_order session)
+  pub ordered : session.clients ≤ 1 → written ≡ file_of session (in_order session)
 
 -- Where source and sink tell their bytes: what was left before and is left now, and what was written before and by now.
-abbrev pub Headline : Option (List ℕ) → Option (List ℕ) → Option (List ℕ) → Option (List ℕ) → Type 0
-Headline None left before now = ⊤
-Headline (Some bytes) left None now = ⊤
-Headline (Some bytes) left (Some before) now = (written : List ℕ) × (now ≡ Some (before ++ written)) × (left ≡ Some []) × Shows bytes written
+abbrev pub Headline : ℕ → Option (List ℕ) → Option (List ℕ) → Option (List ℕ) → Option (List ℕ) → Type 0
+Headline limit None left before now = ⊤
+Headline limit (Some bytes) left None now = ⊤
+Headline limit (Some bytes) left (Some before) now = (written : List ℕ) × (now ≡ Some (before ++ written)) × (left ≡ Some []) × Shows limit bytes written
 
 -- the words are the one word `run`
 abbrev pub is_run_word : List (String Global) → Bool
@@ -59,17 +61,21 @@ long_text = codes "too long\n"
 abbrev pub bad_text : List ℕ
 bad_text = codes "bad script\n"
 
--- a text that the program may write: a fixed one, or a file of the script that was read
-abbrev pub IsFileFrom : Option (List ℕ) → List ℕ → Type 0
-IsFileFrom None text = ⊤
-IsFileFrom (Some bytes) text = Shows bytes text
+-- the text of the bytes that were read: `too long` exactly where they are more than that many, `bad script` exactly where
+-- they are no script, and else a file of the script
+pub record IsTextOf (limit : ℕ) (bytes text : List ℕ) : Type 0 where
+  pub long : limit < length bytes → text ≡ long_text
+  pub bad : length bytes ≤ limit → IsErr (script_of bytes) → text ≡ bad_text
+  pub file : length bytes ≤ limit → IsOk (script_of bytes) → Shows limit bytes text
 
-abbrev pub IsText : Bool → Option (List ℕ) → List ℕ → Type 0
-IsText false left text = text ≡ usage_text
-IsText true left text = (text ≡ long_text) ⊎ ((text ≡ bad_text) ⊎ IsFileFrom left text)
+-- the text that is due: the usage exactly where the words aren't the one word `run`
+abbrev pub IsText : ℕ → Bool → Option (List ℕ) → List ℕ → Type 0
+IsText limit false left text = text ≡ usage_text
+IsText limit true None text = ⊤
+IsText limit true (Some bytes) text = IsTextOf limit bytes text
 
--- a prefix of such a text was written
-pub record WritesPart (is_run : Bool) (left before now : Option (List ℕ)) : Type 0 where
+-- a prefix of the text that is due was written
+pub record WritesPart (limit : ℕ) (is_run : Bool) (left before now : Option (List ℕ)) : Type 0 where
   pub text : List ℕ
-  pub is_text : IsText is_run left text
+  pub is_text : IsText limit is_run left text
   pub part : WritesFront text before now

@@ -2,9 +2,9 @@
 use Rattle.std.specs.Prelude.{ℕ, ◌≡◌, ◌<◌, ◌+◌, List, [], ◌∷◌, ◌++◌, map, length, take, slice_index_or, Option, ⊤, All}
 use Rattle.std.specs.Option.{option_map, option_to_list}
 use Rattle.qws_base.specs.Windows.{layout_of}
-use Rattle.qws_base.specs.States.{step}
+use Rattle.qws_base.specs.Steps.{step}
 use Rattle.qws_base.specs.Scenes.{Setting, paint_reply}
-use Rattle.qws_base.specs.Histories.{Entry, World, client_of, calls_of, world_after, IsLegal}
+use Rattle.qws_base.specs.Histories.{Entry, World, client_of_entry, calls_of, world_after, IsLegal}
 use Rattle.qws_base.specs.Histories.Entry.{Step as StepEntry, Paint as PaintEntry}
 use Rattle.gfx_painters.specs.Paints.{paint_sheet}
 use Rattle.session_script.specs.Session.{Session, session_setting, lines_by, call_line}
@@ -17,7 +17,7 @@ use Rattle.session_script.specs.declared.names.Call.TheVariants.{Step, Paint}
 
 -- the entry of a client's call `k`, with the reply that the world gives; a paint has its call number as tag
 abbrev pub entry_in : Setting → World → ℕ → ℕ → Call → Entry
-entry_in setting world client k (Step command) = StepEntry client command (step world.state client command).1
+entry_in setting world client k (Step command) = StepEntry client command (step setting.size world.state client command).1
 entry_in setting world client k (Paint slot paint) =
     PaintEntry client slot k (paint_sheet paint) (paint_reply setting.size (layout_of setting.size world.state.windows) client slot (paint_sheet paint))
 
@@ -87,4 +87,4 @@ IsWhole session h client = IsCallsFrom client 0 [] (lines_by session client) (ca
 pub record IsRunOf (session : Session) (h : List Entry) : Type 0 where
   pub legal : IsLegal (session_setting session) h
   pub whole : (client : ℕ) → client < session.clients → IsWhole session h client
-  pub no_other : All (λ e. client_of e < session.clients) h
+  pub no_other : All (λ e. client_of_entry e < session.clients) h

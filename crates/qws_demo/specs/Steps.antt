@@ -1,19 +1,17 @@
 -- What a run holds after the first lines of a script.
-use Rattle.std.specs.Prelude.{ℕ, ◌≡◌, ◌<◌, List, [], ◌++◌, length, slice_index_or, slice_get, Some, All, ⊤}
+use Rattle.std.specs.Prelude.{ℕ, ◌≡◌, ◌<◌, List, [], ◌++◌, length, slice_index_or, slice_get, Some, All}
 use lib.Chars.{codes}
 use Rattle.std.specs.List.{flat_map}
 use Rattle.qws_base.specs.States.{State}
 use Rattle.qws_base.specs.Scenes.{Setting}
 use Rattle.qws_base.specs.Histories.{Entry, World, calls_of, next_world, world_after}
 use Rattle.qws_base.specs.Histories.Entry.{Step as StepEntry, Paint as PaintEntry}
-use Rattle.window_core.specs.CoreViews.{CoreView, IsPlannable}
+use Rattle.window_core.specs.CoreViews.{CoreView}
 use Rattle.pixel_model.specs.Drawn.{Drawn}
 use Rattle.session_script.specs.Session.{Session, session_setting}
 use Rattle.session_script.specs.Meaning.{learned}
 use Rattle.session_script.specs.declared.lines.LineCall.{LineCall}
 use Rattle.session_script.specs.declared.names.Place.{Place}
-use Rattle.session_script.specs.declared.names.Call.{Call}
-use Rattle.session_script.specs.declared.names.Call.TheVariants.{Step, Paint}
 use Rattle.qws_demo.specs.declared.answers.Answer.{Answer}
 use Rattle.qws_demo.specs.declared.answers.Answer.TheVariants.{Step as StepAnswer, Paint as PaintAnswer}
 use Rattle.qws_demo.specs.declared.callers.Caller.{Caller}
@@ -38,11 +36,6 @@ PrintsAnswer (PaintAnswer reply) = PrintsPaint reply
 abbrev pub learned_by_answer : List Place → LineCall → Answer → List Place
 learned_by_answer places call (StepAnswer reply) = learned places call reply
 learned_by_answer places call (PaintAnswer reply) = places
-
--- the call can be made: a command is one that can be planned
-abbrev pub IsMakeable : State → Call → Type 0
-IsMakeable state (Step command) = IsPlannable state command
-IsMakeable state (Paint slot paint) = ⊤
 
 -- a client's names after a history, and how many of its calls stand in it
 pub record IsCaller (session : Session) (h : List Entry) (client : ℕ) (caller : Caller) : Type 0 where

@@ -4,7 +4,7 @@ use lib.Chars.{codes}
 use Rattle.std.specs.List.{flat_map}
 use Rattle.std.specs.Fmt.{decimal, signed_decimal}
 use Rattle.qws_base.specs.Sides.{Sides}
-use Rattle.qws_base.specs.Histories.{Entry, client_of, calls_of}
+use Rattle.qws_base.specs.Histories.{Entry, client_of_entry, calls_of}
 use Rattle.qws_base.specs.Histories.Entry.{Step, Paint}
 use Rattle.qws_base.specs.declared.replies.Event.{Event}
 use Rattle.qws_base.specs.declared.replies.Event.TheVariants.{Message, RegionModified}
@@ -69,7 +69,7 @@ comment client number words = codes "# " ++ (decimal client ++ (codes " " ++ (de
 
 -- the comment of an entry behind a history
 abbrev pub comment_behind : List Entry → Entry → List ℕ
-comment_behind h e = comment (client_of e) (length (calls_of h (client_of e))) (entry_words e)
+comment_behind h e = comment (client_of_entry e) (length (calls_of h (client_of_entry e))) (entry_words e)
 
 -- the comments of the entries that follow a history
 abbrev pub comments_behind : List Entry → List Entry → List (List ℕ)

@@ -28,6 +28,7 @@ fn finish<K: Sink>(sink: &mut K, text: &[u8], status: u8) -> u8
     ensures part { result ≡ 4 → WritesFront text.now (K.written sink.old) (K.written sink.new) }
     ensures status { (result ≡ status) ⊎ (result ≡ 4) }
     ensures fault { result ≡ 4 → Rose (K.faults sink.old) (K.faults sink.new) }
+    ensures unfailed { (result ≡ 4) ⊎ (K.faults sink.new ≡ K.faults sink.old) }
     ensures never_falls { K.faults sink.old ≤ K.faults sink.new }
 {
     match write_all(sink, text) {
@@ -46,8 +47,8 @@ fn finish<K: Sink>(sink: &mut K, text: &[u8], status: u8) -> u8
 /// | 0 | else | the file |
 /// | 1 | exactly where the bytes are no script | `bad script` |
 /// | 2 | exactly where the words aren't the one word `run` | `usage: qws_demo run` |
-/// | 3 | only where the source's count of faults rose | nothing |
-/// | 4 | only where the sink's count of faults rose | a prefix of the text |
+/// | 3 | exactly where a read failed, so that the source's count of faults rose | nothing |
+/// | 4 | exactly where a write failed, so that the sink's count of faults rose | a prefix of the text that is due |
 /// | 5 | where memory is missing | nothing |
 /// | 6 | exactly where the source gave more than 4,194,304 bytes | `too long` |
 ///
@@ -62,7 +63,7 @@ pub fn top<R, S: Source, K: Sink, G: Gate + Sync>(
 ) -> u8
     // With status 0 the bytes written are the file of a legal history that its comment lines name, with each client's whole
     // calls once and in order.
-    ensures headline { result ≡ 0 → Headline (S.left source.old) (S.left source.new) (K.written sink.old) (K.written sink.new) }
+    ensures headline { result ≡ 0 → Headline 4194304 (S.left source.old) (S.left source.new) (K.written sink.old) (K.written sink.new) }
 
     // What each other status says, and what is written then.
     ensures bad { result ≡ 1 → SpelledNone 4194304 (S.left source.old) }
@@ -72,11 +73,14 @@ pub fn top<R, S: Source, K: Sink, G: Gate + Sync>(
     ensures read_fault { result ≡ 3 → Rose (S.faults source.old) (S.faults source.new) }
     ensures unread { result ≡ 3 → K.written sink.new ≡ K.written sink.old }
     ensures write_fault { result ≡ 4 → Rose (K.faults sink.old) (K.faults sink.new) }
-    ensures part { result ≡ 4 → WritesPart (is_run_word words.now) (S.left source.old) (K.written sink.old) (K.written sink.new) }
+    ensures part { result ≡ 4 → WritesPart 4194304 (is_run_word words.now) (S.left source.old) (K.written sink.old) (K.written sink.new) }
     ensures no_memory { result ≡ 5 → K.written sink.new ≡ K.written sink.old }
     ensures too_long { result ≡ 6 → HadMoreThan 4194304 (S.left source.old) }
     ensures long_written { result ≡ 6 → K.written sink.new ≡ with_bytes long_text (K.written sink.old) }
     ensures no_other { result ≤ 6 }
+    // The counts of faults rise with those statuses alone.
+    ensures read_well { (result ≡ 3) ⊎ (S.faults source.new ≡ S.faults source.old) }
+    ensures wrote_well { (result ≡ 4) ⊎ (K.faults sink.new ≡ K.faults sink.old) }
     ensures run_words { (result ≡ 0) ⊎ ((result ≡ 1) ⊎ ((result ≡ 3) ⊎ ((result ≡ 5) ⊎ (result ≡ 6)))) → is_run_word words.now ≡ true }
 
     // The other direction: when each status comes, where source and sink have no fault and memory is there.

@@ -1,6 +1,5 @@
 //! A run of a session, in the order of the lines.
 ghost use Rattle.std.specs.Prelude.{◌≡◌, ◌<◌, ◌+◌, ◌^◌, ℕ, IfOk, OnOk, length};
-ghost use Rattle.qws_base.specs.States.{opening_cursor};
 ghost use Rattle.session_script.specs.Limits.{IsSession};
 ghost use Rattle.session_script.specs.Meaning.{meaning};
 ghost use Rattle.qws_demo.specs.Runs.{front, line_at, line_entry, places_in, in_order};
@@ -12,7 +11,7 @@ use crate::callers::Caller;
 use crate::steps::{learn, make_call, note};
 use crate::texts::push_picture;
 use pixel_model::Canvas;
-use qws_base::{Cursor, OutOfMemory, Words};
+use qws_base::OutOfMemory;
 use session_script::{Call, Names, Script};
 use std::alloc::Global;
 use window_core::Core;
@@ -50,6 +49,7 @@ fn line_answer(
     requires session { IsSession script.now }
     requires client { client ≡ (line_at script.now j).client }
     requires known { client < script.now.clients }
+    requires few { length script.now.calls < 2 ^ 32 }
     requires call { call.now ≡ meaning (places_in script.now (front script.now j) client) (line_at script.now j).call }
     requires world { IsWorld script.now (front script.now j) core.old canvas.old }
     ensures world { OnOk result (IsWorld script.now (front script.now (j + 1)) core.new canvas.new) }
@@ -94,7 +94,7 @@ fn line_learned(
     requires below { j < length script.now.calls }
     requires client { client ≡ (line_at script.now j).client }
     requires known { client < script.now.clients }
-    requires few { length script.now.calls < 2 ^ 64 }
+    requires few { length script.now.calls < 2 ^ 32 }
     requires callers { AreCallers script.now (front script.now j) callers.old }
     requires answer { answer.now ≡ answer_of (line_entry script.now j) }
     ensures { OnOk result (AreCallers script.now (front script.now (j + 1)) callers.new) }
@@ -116,7 +116,7 @@ struct Run {
 fn run_line(alloc: Global, script: &Script, run: &mut Run, j: u64) -> Result<(), OutOfMemory>
     requires below { j < length script.now.calls }
     requires session { IsSession script.now }
-    requires few { length script.now.calls < 2 ^ 64 }
+    requires few { length script.now.calls < 2 ^ 32 }
     requires world { IsWorld script.now (front script.now j) run.old.core run.old.canvas }
     requires callers { AreCallers script.now (front script.now j) run.old.callers.items }
     requires text { IsCommented (front script.now j) run.old.text.items }
@@ -182,7 +182,8 @@ fn opening(alloc: Global, script: &Script) -> Result<Run, OutOfMemory>
 
 // A run behind the last line.
 fn run_lines(alloc: Global, script: &Script) -> Result<Run, OutOfMemory>
-    requires { IsSession script.now }
+    requires session { IsSession script.now }
+    requires few { length script.now.calls < 2 ^ 32 }
     ensures world { IfOk result (λ run. IsWorld script.now (front script.now (length script.now.calls)) run.core run.canvas) }
     ensures text { IfOk result (λ run. IsCommented (front script.now (length script.now.calls)) run.text.items) }
 {
@@ -191,20 +192,6 @@ fn run_lines(alloc: Global, script: &Script) -> Result<Run, OutOfMemory>
         run_line(alloc, script, &mut run, j)?;
     }
     Ok(run)
-}
-
-// The cursor as it is: hidden, without a shape.
-fn cursor(alloc: Global) -> Cursor
-    ensures { result ≡ opening_cursor }
-{
-    Cursor {
-        x: 0,
-        y: 0,
-        w: 0,
-        h: 0,
-        cells: Words::of(Vec::new(alloc)),
-        shown: false,
-    }
 }
 
 // Adds the picture of a run to its comments.
@@ -220,14 +207,15 @@ fn finish(alloc: Global, script: &Script, run: Run) -> Result<Vec<u8>, OutOfMemo
         mut text,
     } = run;
     let _windows = core.windows();
-    let shown = canvas.show(alloc, &cursor(alloc))?;
+    let shown = canvas.show(alloc, core.cursor())?;
     push_picture(alloc, &mut text, script.size(), shown.as_slice())?;
     Ok(text)
 }
 
 /// The file of a script: its calls are made in the order of their lines.
 pub fn run_script(alloc: Global, script: &Script) -> Result<Vec<u8>, OutOfMemory>
-    requires { IsSession script.now }
+    requires session { IsSession script.now }
+    requires few { length script.now.calls < 2 ^ 32 }
     ensures file { IfOk result (λ file. IsFileOf script.now file.items) }
     ensures ordered { IfOk result (λ file. file.items ≡ file_of script.now (in_order script.now)) }
 {

@@ -1,16 +1,17 @@
 //! The calls of a session, one at a time, over a core and a canvas.
 ghost use Rattle.std.specs.Prelude.{◌≡◌, ◌++◌, ◌+◌, ◌^◌, ℕ, Some, ◌<◌, IfOk, OnOk, string_bytes, length};
 ghost use Rattle.std.specs.Option.{option_map};
-ghost use Rattle.qws_base.specs.States.{is_refused, moved_slot, step};
+ghost use Rattle.qws_base.specs.States.{is_refused, moved_slot};
+ghost use Rattle.qws_base.specs.Steps.{step};
 ghost use Rattle.qws_base.specs.Scenes.{Setting, scene_after_paint, paint_reply};
 ghost use Rattle.qws_base.specs.Windows.{layout_of};
 ghost use Rattle.qws_base.specs.Histories.{World, scene_after};
 ghost use Rattle.gfx_painters.specs.Paints.{paint_sheet};
-ghost use Rattle.window_core.specs.CoreViews.{Belongs, IsPlannable};
+ghost use Rattle.window_core.specs.CoreViews.{Belongs, CanRise};
 ghost use Rattle.session_script.specs.Session.{lines_by, call_line};
 ghost use Rattle.qws_demo.specs.Runs.{entry_in};
 ghost use Rattle.qws_demo.specs.Texts.{comment, ended};
-ghost use Rattle.qws_demo.specs.Steps.{answer_of, answer_words, PrintsAnswer, learned_by_answer, IsMakeable, IsNextWorld};
+ghost use Rattle.qws_demo.specs.Steps.{answer_of, answer_words, PrintsAnswer, learned_by_answer, IsNextWorld};
 
 use crate::answers::Answer;
 use crate::callers::Caller;
@@ -42,11 +43,11 @@ fn is_refusal(plan: &Plan) -> bool
 // Shows a planned step on the canvas, before it is committed.
 fn show_step(core: &Core, canvas: &mut Canvas, command: &Command, plan: &Plan)
     requires size { canvas.old.setting.size ≡ core.now.size }
-    requires belongs { Belongs plan.now core.now.state }
+    requires belongs { Belongs core.now.size plan.now core.now.state }
     requires command { plan.now.command ≡ command.now }
     ensures setting { canvas.new.setting ≡ canvas.old.setting }
     ensures scene { let world : World = record { state = core.now.state; scene = canvas.old.scene } in
-        canvas.new.scene ≡ scene_after canvas.old.setting world command.now (step core.now.state plan.now.client command.now) }
+        canvas.new.scene ≡ scene_after canvas.old.setting world command.now (step core.now.size core.now.state plan.now.client command.now) }
 {
     if !is_refusal(plan) {
         canvas.apply_step(core.windows(), plan.windows(), slot_moved(command));
@@ -61,15 +62,15 @@ fn make_step(
     client: u32,
     command: &Command,
 ) -> Result<Reply, OutOfMemory>
-    requires client { client ≡ 0 }
-    requires command { IsPlannable core.old.state command.now }
+    requires client { client < 16 }
+    requires room { CanRise core.old.state }
     requires size { canvas.old.setting.size ≡ core.old.size }
     ensures size { core.new.size ≡ core.old.size }
     ensures setting { canvas.new.setting ≡ canvas.old.setting }
-    ensures state { OnOk result (core.new.state ≡ (step core.old.state client command.now).0) }
+    ensures state { OnOk result (core.new.state ≡ (step core.old.size core.old.state client command.now).0) }
     ensures scene { let world : World = record { state = core.old.state; scene = canvas.old.scene } in
-        OnOk result (canvas.new.scene ≡ scene_after canvas.old.setting world command.now (step core.old.state client command.now)) }
-    ensures reply { IfOk result (λ reply. reply ≡ (step core.old.state client command.now).1) }
+        OnOk result (canvas.new.scene ≡ scene_after canvas.old.setting world command.now (step core.old.size core.old.state client command.now)) }
+    ensures reply { IfOk result (λ reply. reply ≡ (step core.old.size core.old.state client command.now).1) }
 {
     let plan = core.plan(alloc, client, command)?;
     show_step(core, canvas, command, &plan);
@@ -101,8 +102,8 @@ pub fn make_call(
     client: u32,
     call: &Call<'_>,
 ) -> Result<Answer, OutOfMemory>
-    requires client { client ≡ 0 }
-    requires call { IsMakeable core.old.state call.now }
+    requires client { client < 16 }
+    requires room { CanRise core.old.state }
     requires size { canvas.old.setting.size ≡ core.old.size }
     ensures size { core.new.size ≡ core.old.size }
     ensures setting { canvas.new.setting ≡ canvas.old.setting }

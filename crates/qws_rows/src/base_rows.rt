@@ -1,7 +1,8 @@
 //! Blending, copies, books, and streams over readers and writers of std.
 use qws_base::{
-    Book, BookEntry, Bytes, Command, Ink, PaintReply, Rect, Rects, Reply, Rgb, RowBuf, StdSink,
-    StdSource, Words, after, read_all, write_all,
+    Book, BookEntry, Bytes, CleanSink, CleanSource, Command, Cursor, Ink, JournalEntry, MemSink,
+    MemSource, PaintReply, Point, ReadStop, Rect, Rects, Reply, Rgb, RowBuf, Sink, StdSink,
+    StdSource, WindowView, Words, WriteFault, after, read_all, write_all,
 };
 use std::alloc::Global;
 use std::test::Fail;
@@ -24,19 +25,9 @@ fn blending(rt: HostRuntime) -> Result<(), Fail> {
 fn copies_are_equal(rt: HostRuntime) -> Result<(), Fail> {
     let alloc = rt.alloc();
     let command = Command::Create { layer: 0 };
-    assert!(rt;
-        matches!(
-            command.copy(alloc).ok().ok_or("memory")?,
-            Command::Create { layer: 0 }
-        )
-    );
+    assert_eq!(rt; command.copy(alloc).ok(), Some(command));
     let reply = Reply::Created { slot: 0 };
-    assert!(rt;
-        matches!(
-            reply.copy(alloc).ok().ok_or("memory")?,
-            Reply::Created { slot: 0 }
-        )
-    );
+    assert_eq!(rt; reply.copy(alloc).ok(), Some(reply));
     let rect = Rect {
         x: 1,
         y: 2,
@@ -58,7 +49,45 @@ fn copies_are_equal(rt: HostRuntime) -> Result<(), Fail> {
         .ok()
         .ok_or("memory")?;
     assert_eq!(rt; words.as_slice(), [8].as_slice());
+    assert_ne!(rt; words, Words::of(vec![in alloc; 8, 8]?));
     Ok(())
+}
+
+#[test]
+fn copies_of_records_are_equal(rt: HostRuntime) -> Result<(), Fail> {
+    let alloc = rt.alloc();
+    let rect = Rect {
+        x: 1,
+        y: 2,
+        w: 3,
+        h: 4,
+    };
+    let window = WindowView {
+        slot: 1,
+        owner: 2,
+        layer: 0,
+        origin: Point { x: 3, y: -4 },
+        rects: Rects::of(vec![in alloc; rect]?),
+    };
+    assert_eq!(rt; window.copy(alloc).ok(), Some(window));
+    let cursor = Cursor::hidden(alloc);
+    assert!(rt; cursor.is_shape() && !cursor.shown);
+    assert_eq!(rt; cursor.copy(alloc).ok(), Some(cursor));
+    let entry = JournalEntry {
+        number: 1,
+        client: 2,
+        command: Command::Take,
+        reply: Reply::Done,
+    };
+    assert_eq!(rt; entry.copy(alloc).ok(), Some(entry));
+    Ok(())
+}
+
+#[test]
+fn channels_of_a_colour(rt: HostRuntime) {
+    let orange = Rgb::of_channels(255, 128, 0);
+    assert_eq!(rt; orange.value(), 0xff8000);
+    assert_eq!(rt; orange.channels(), [255, 128, 0]);
 }
 
 #[test]
@@ -71,7 +100,9 @@ fn a_book_and_a_row(rt: HostRuntime) -> Result<(), Fail> {
         tag: 4,
         reply: PaintReply::Gone,
     };
+    assert!(rt; !book.is_full());
     book.push(entry);
+    assert!(rt; book.is_full());
     assert_eq!(rt; book.client(), 3);
     assert_eq!(rt; book.entries(), [entry].as_slice());
     let mut row = RowBuf::new(alloc).ok().ok_or("memory")?;
@@ -98,5 +129,39 @@ fn a_writer_of_std(rt: HostRuntime) -> Result<(), Fail> {
     assert!(rt; write_all(&mut sink, b"P6\n").is_ok());
     let _ = sink;
     assert_eq!(rt; written.as_slice(), b"P6\n".as_slice());
+    Ok(())
+}
+
+#[test]
+fn what_stops_a_reader(rt: HostRuntime) -> Result<(), Fail> {
+    let alloc = rt.alloc();
+    let mut clean = CleanSource::new(b"screen".to_vec(alloc)?);
+    assert_eq!(rt;
+        read_all(alloc, &mut clean, 5).err(),
+        Some(ReadStop::TooLong)
+    );
+    let mut failing = MemSource::new(b"screen".to_vec(alloc)?, 4, vec![in alloc; 2]?);
+    assert_eq!(rt;
+        read_all(alloc, &mut failing, 6).err(),
+        Some(ReadStop::ReadFault)
+    );
+    let mut pieces = MemSource::new(b"screen".to_vec(alloc)?, 4, Vec::new(alloc));
+    let bytes = read_all(alloc, &mut pieces, 6).ok().ok_or("a stop")?;
+    assert_eq!(rt; bytes.as_slice(), b"screen".as_slice());
+    Ok(())
+}
+
+#[test]
+fn what_stops_a_writer(rt: HostRuntime) -> Result<(), Fail> {
+    let alloc = rt.alloc();
+    let row = b"P6\n2 1\n255\n\x10\x20\x30\x10\x20\x30";
+    let mut sink = MemSink::new(alloc, 100, 5, vec![in alloc; 3]?)
+        .ok()
+        .ok_or("memory")?;
+    assert_eq!(rt; write_all(&mut sink, row), Err(WriteFault));
+    assert_eq!(rt; sink.bytes(), b"P6\n2 1\n255".as_slice());
+    let mut clean = CleanSink::new();
+    assert_eq!(rt; clean.write(row).ok(), Some(17));
+    assert_eq!(rt; write_all(&mut clean, row), Ok(()));
     Ok(())
 }

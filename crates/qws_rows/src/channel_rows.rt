@@ -105,3 +105,86 @@ fn fills_a_mailbox(rt: HostRuntime) -> Result<(), Fail> {
     assert_eq!(rt; channels.send(0, b"c", b"m", b""), Ok(0));
     Ok(())
 }
+
+#[test]
+fn copies_a_mailbox_with_events(rt: HostRuntime) -> Result<(), Fail> {
+    let mut channels = Channels::new(rt.alloc())?;
+    assert_eq!(rt; channels.join(0, b"c"), Ok(()));
+    assert_eq!(rt; channels.send(1, b"c", b"m", b"p"), Ok(1));
+    assert_eq!(rt; channels.note_region(0, 5), Ok(()));
+    let mut copy = channels.copy(rt.alloc())?;
+    assert_eq!(rt; seen_in(copy.take(0)), Taken::Message { from: 1, len: 1 });
+    assert_eq!(rt; seen_in(copy.take(0)), Taken::Modified { slot: 5 });
+    assert_eq!(rt; seen_in(copy.take(0)), EMPTY);
+    assert_eq!(rt;
+        seen_in(channels.take(0)),
+        Taken::Message { from: 1, len: 1 }
+    );
+    assert_eq!(rt; seen_in(channels.take(0)), Taken::Modified { slot: 5 });
+    Ok(())
+}
+
+#[test]
+fn fills_16_mailboxes(rt: HostRuntime) -> Result<(), Fail> {
+    let mut channels = Channels::new(rt.alloc())?;
+    for k in 0..16u32 {
+        assert_eq!(rt; channels.join(15 - k, b"c"), Ok(()));
+    }
+    assert_eq!(rt; channels.subscriber_count(b"c"), 16);
+    for _ in 0..255u32 {
+        assert_eq!(rt; channels.send(3, b"c", b"m", b""), Ok(16));
+    }
+    assert!(rt; !channels.is_full(15));
+    assert_eq!(rt; channels.send(3, b"c", b"m", b"last"), Ok(16));
+    assert_eq!(rt;
+        channels.send(3, b"c", b"m", b""),
+        Err(QcopStop::MailboxFull { client: 15 })
+    );
+    assert_eq!(rt;
+        seen_in(channels.take(15)),
+        Taken::Message { from: 3, len: 0 }
+    );
+    assert_eq!(rt;
+        channels.send(3, b"c", b"m", b""),
+        Err(QcopStop::MailboxFull { client: 14 })
+    );
+    for _ in 0..254u32 {
+        assert_eq!(rt;
+            seen_in(channels.take(15)),
+            Taken::Message { from: 3, len: 0 }
+        );
+    }
+    assert_eq!(rt;
+        seen_in(channels.take(15)),
+        Taken::Message { from: 3, len: 4 }
+    );
+    assert_eq!(rt; seen_in(channels.take(15)), EMPTY);
+    Ok(())
+}
+
+#[test]
+fn notes_32_slots_behind_256_messages(rt: HostRuntime) -> Result<(), Fail> {
+    let mut channels = Channels::new(rt.alloc())?;
+    assert_eq!(rt; channels.join(1, b"c"), Ok(()));
+    for _ in 0..256u32 {
+        assert_eq!(rt; channels.send(1, b"c", b"m", b""), Ok(1));
+    }
+    for slot in 0..32u32 {
+        assert_eq!(rt; channels.note_region(1, slot), Ok(()));
+        channels.tell_region(1, slot);
+    }
+    for _ in 0..256u32 {
+        assert_eq!(rt;
+            seen_in(channels.take(1)),
+            Taken::Message { from: 1, len: 0 }
+        );
+    }
+    channels.forget_region(1, 7);
+    for slot in 0..32u32 {
+        if slot != 7 {
+            assert_eq!(rt; seen_in(channels.take(1)), Taken::Modified { slot });
+        }
+    }
+    assert_eq!(rt; seen_in(channels.take(1)), EMPTY);
+    Ok(())
+}

@@ -4,6 +4,8 @@
 #[cfg(test)]
 mod base_rows;
 #[cfg(test)]
+mod canvas_rows;
+#[cfg(test)]
 mod channel_rows;
 #[cfg(test)]
 mod picture_rows;

@@ -5,7 +5,10 @@ ghost use Rattle.qws_rows.specs.Sides.{IsSide};
 ghost use Rattle.band_regions.specs.Ranges.{IsInRange, IsShiftable};
 
 use band_regions::Region;
-use qws_base::{OutOfMemory, Point, Rect};
+use gfx_fills::Fill;
+use gfx_painters::{Paint, is_on_canvas, paint_plain};
+use pixel_model::Canvas;
+use qws_base::{Depth, Ink, OutOfMemory, Point, Rect, Rgb, RowBuf, Size};
 use std::alloc::{AllocError, AllocFailed, Global};
 
 /// Why a test ends before its end.
@@ -198,5 +201,33 @@ fn comb(rt: HostRuntime) -> Result<(), Stop> {
     teeth.truncate(30);
     teeth.push(rect(40, 0, 1, 3))?;
     assert_eq!(rt; region(alloc, &teeth)?.rects().len(), 257);
+    Ok(())
+}
+
+const WIDE: Rect = Rect {
+    x: -5,
+    y: -5,
+    w: 20,
+    h: 20,
+};
+
+#[test]
+fn a_paint_on_a_region(rt: HostRuntime) -> Result<(), Stop> {
+    let alloc = rt.alloc();
+    let size = Size::new(3, 2).ok_or(Stop::OutOfRange)?;
+    let black = Rgb::new(0).ok_or(Stop::OutOfRange)?;
+    let orange = Rgb::new(0xff8000).ok_or(Stop::OutOfRange)?;
+    let mut canvas = Canvas::new(alloc, size, Depth::Full, black)?;
+    let clip = region(alloc, &[rect(1, 0, 1, 2)])?;
+    let fill = Fill::new(WIDE, Ink::Copy { c: orange });
+    let mut row = RowBuf::new(alloc)?;
+    if !is_on_canvas(&canvas, &clip) {
+        return Err(Stop::OutOfRange);
+    }
+    let origin = Point { x: 1, y: 0 };
+    let painted = paint_plain(&mut canvas, &clip, origin, &Paint::Fill { fill }, &mut row);
+    assert_eq!(rt; painted, 2);
+    let left = [black, orange, black, black, orange, black];
+    assert_eq!(rt; canvas.pixels(), left.as_slice());
     Ok(())
 }

@@ -1,6 +1,6 @@
 //! Words of a table, and their numbers.
 ghost use Rattle.std.specs.Prelude.{◌≡◌, IfOk, All, length};
-ghost use Rattle.region_table.specs.Tables.{IsRow, IsSpellable};
+ghost use Rattle.region_table.specs.Tables.{IsSpellableRow, IsSpellable};
 
 use qws_base::{Cursor, OutOfMemory, Point, Rect, Rects, Words};
 use region_table::{Row, Rows, Table, cell_at, pack, pixel_at, row_at, saved_at, unpack, word_of};
@@ -9,7 +9,7 @@ use std::test::Fail;
 
 // A row with one rectangle for slot 0, and a row of a slot without a window for each other.
 fn row(alloc: Global, slot: u32) -> Result<Row, OutOfMemory>
-    ensures { IfOk result (λ row. IsRow row) }
+    ensures { IfOk result (λ row. IsSpellableRow row) }
 {
     let mut rects = Vec::new(alloc);
     if slot == 0 {
@@ -36,7 +36,7 @@ fn row(alloc: Global, slot: u32) -> Result<Row, OutOfMemory>
 
 fn rows(alloc: Global) -> Result<Rows, OutOfMemory>
     ensures whole { IfOk result (λ rows. length rows ≡ 33) }
-    ensures rows { IfOk result (λ rows. All IsRow rows) }
+    ensures rows { IfOk result (λ rows. All IsSpellableRow rows) }
 {
     let mut rows = Vec::new(alloc);
     for slot in 0..33 {

@@ -1,13 +1,17 @@
-use Rattle.std.proofs.Common.{◌≡◌}
+use Rattle.std.proofs.Common.{◌≡◌, arith}
 use Rattle.qws_base.specs.Scenes.{Setting}
 use Rattle.qws_base.specs.Histories.{World, Entry}
 use Rattle.qws_demo.specs.Steps.{answer_of, IsNextWorld}
 use Rattle.qws_demo.proofs.Turns.{world_next}
-use Rattle.qws_demo.proofs.Calls.{call_makeable, on_line}
+use Rattle.qws_demo.proofs.Calls.{on_line}
+use Rattle.qws_demo.proofs.Revisions.{can_rise}
 use Rattle.qws_demo.proofs.runs.line_answer.Goals as goal
 
-pub make_call-requires-clause-call : goal.make_call-requires-clause-call
-make_call-requires-clause-call c = call_makeable c.args.script.now c.args.j c.args.client c.args.call.now c.args.core.now c.args.canvas.now c.requires.below c.requires.session c.requires.call c.requires.world
+pub make_call-requires-clause-client : goal.make_call-requires-clause-client
+make_call-requires-clause-client c = omega (arith, c.requires.known, c.requires.session.clients)
+
+pub make_call-requires-clause-room : goal.make_call-requires-clause-room
+make_call-requires-clause-room c = can_rise c.args.script.now c.args.j c.args.core.now c.args.canvas.now c.requires.below c.requires.few c.requires.world
 
 pub returns-clause-world : goal.returns-clause-world
 returns-clause-world c =
