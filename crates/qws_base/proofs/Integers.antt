@@ -1,5 +1,5 @@
 -- What tests of integers tell, and which places a span has.
-use Rattle.std.proofs.Common.{◌≡◌, ℕ, ◌+◌, ◌*◌, ◌<◌, zero, suc, Bool, true, false, ◌&&◌, ◌⊎◌, inl, inr, arith}
+use Rattle.std.proofs.Common.{◌≡◌, ℕ, ◌+◌, ◌*◌, ◌<◌, ◌≤◌, zero, suc, true, false, ◌⊎◌, inl, inr, arith}
 use Rattle.std.specs.Prelude.{ℤ, pos, ◌+ℤ◌, ◌-ℤ◌, ◌<ℤ◌, ◌≤ℤ◌, nat_abs, int_le, int_lt}
 use Rattle.std.specs.Ordering.{int_eq}
 use Rattle.std.proofs.lemmas.Int.{ints}
@@ -81,6 +81,17 @@ within n at h =
     let l : pos 0 ≤ℤ at = spans_low (pos 0) at n h in
     let m : at <ℤ (pos 0 +ℤ pos n) = spans_high (pos 0) at n h in
     record { below = omega (arith, ints, l, m); same = omega (arith, ints, l) }
+
+-- ---- places from 0 on
+
+pub from_pos : (z : ℤ) → pos 0 ≤ℤ z → z ≡ pos (nat_abs z)
+from_pos z le = omega (arith, ints)
+
+pub end_in : (z : ℤ) (n m : ℕ) → pos 0 ≤ℤ z → (z +ℤ pos n) ≤ℤ pos m → nat_abs z + n ≤ m
+end_in z n m le end = omega (arith, ints)
+
+pub spans_in : (x n at : ℕ) → x ≤ at → at < x + n → spans (pos x) n (pos at) ≡ true
+spans_in x n at low high = grind (arith, ints)
 
 -- a place in rows of some width shows that they have one
 pub some_width : (w h k : ℕ) → k < w * h → 0 < w

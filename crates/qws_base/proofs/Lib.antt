@@ -15,3 +15,5 @@ pub mod JoinedLemmas
 pub mod RectPixelLemmas
 pub mod PixelRows
 pub mod CountLemmas
+pub mod EqualLemmas
+pub mod CauseLemmas

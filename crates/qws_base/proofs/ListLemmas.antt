@@ -1,5 +1,7 @@
 -- What holds of lists that are filtered, joined and mapped, and what a search finds.
-use Rattle.std.proofs.Common.{◌≡◌, ℕ, ◌+◌, ◌<◌, ◌≤◌, zero, suc, Bool, true, false, ◌||◌, cond, Option, None, Some, List, [], ◌∷◌, ◌++◌, map, refl, sym, ap, ◌∙◌, subst, ⊎_elim, arith}
+use Rattle.std.proofs.Common.{◌≡◌, ℕ, ◌+◌, ◌<◌, ◌≤◌, zero, suc, Bool, true, false, cond, Option, None, Some, List, [], ◌∷◌, ◌++◌, map, length, get_or, refl, sym, ap, ◌∙◌, subst, ⊎_elim, arith}
+use mathlib.Core.Option.{some, some-injective, some-ne-none}
+use lib.ListN.{get_elem?}
 use Rattle.std.specs.List.{All, AllPairs, filter, find, list_any, range_with_len}
 use Rattle.std.specs.Option.{option_map, option_map_or}
 use Rattle.std.proofs.lemmas.Bool.{false≢true, cases_eq, or_parts}
@@ -122,3 +124,18 @@ found_member P test (x ∷ xs) w h e = member_by P test x xs w (test x) refl (Al
 pub passed_over : {X : Type 0} (test : X → Bool) (xs ys : List X) (w : X) → test w ≡ false → find test (xs ++ w ∷ ys) ≡ find test (xs ++ ys)
 passed_over test [] ys w h = ap (λ b. cond b (Some w) (find test ys)) h
 passed_over test (x ∷ xs) ys w h = ap (λ o. cond (test x) (Some x) o) (passed_over test xs ys w h)
+
+-- ---- an item at a place, and how many pass
+
+pub item_at : {X : Type 0} (xs : List X) (k : ℕ) (x d : X) → get_elem? xs k ≡ some x → get_or xs k d ≡ x
+item_at [] k x d at = absurd (some-ne-none x (sym at))
+item_at (y ∷ xs) zero x d at = some-injective y x at
+item_at (y ∷ xs) (suc k) x d at = item_at xs k x d at
+
+pub filter_le : {X : Type 0} (test : X → Bool) (xs : List X) → length (filter test xs) ≤ length xs
+filter_le test [] = omega arith
+filter_le test (x ∷ xs) = by (test x) (filter_le test xs)
+  where
+    by : (b : Bool) → length (filter test xs) ≤ length xs → length (cond b (x ∷ filter test xs) (filter test xs)) ≤ suc (length xs)
+    by true h = omega arith
+    by false h = omega arith

@@ -1,5 +1,5 @@
 -- Pixels of a row and rows of a rectangle, one after another, and how many of them pass a test.
-use Rattle.std.proofs.Common.{◌≡◌, ℕ, zero, suc, ◌+◌, ◌*◌, ◌/◌, ◌%◌, ◌<◌, ◌≤◌, if◌then◌else◌, Bool, true, false, not, List, [], ◌∷◌, ◌++◌, length, append-nil, get_or, sym, refl, ap, ◌∙◌, arith, pos, ◌+ℤ◌, ◌-ℤ◌, ◌≤ℤ◌, ℤ, nat_abs, ◌-◌, subst, ◌&&◌}
+use Rattle.std.proofs.Common.{◌≡◌, ℕ, zero, suc, ◌+◌, ◌*◌, ◌/◌, ◌%◌, ◌<◌, ◌≤◌, if◌then◌else◌, Bool, true, false, not, List, [], ◌∷◌, ◌++◌, length, append-nil, get_or, sym, refl, ap, ◌∙◌, arith, pos, ◌+ℤ◌, ◌-ℤ◌, ℤ, nat_abs, ◌-◌, subst, ◌&&◌}
 use native.Mathlib.Numerals.{unary_clauses}
 use Rattle.std.specs.List.{filter, flat_map, range_with_len}
 use Rattle.std.proofs.lemmas.Int.{ints}
@@ -16,6 +16,8 @@ use Rattle.qws_base.specs.RectPixels.{rect_pixels, IsWithin}
 use Rattle.qws_base.specs.declared.points.Point.{Point}
 use Rattle.qws_base.specs.declared.points.Rect.{Rect}
 use Rattle.qws_base.specs.declared.inks.Ink.{Ink}
+use Rattle.qws_base.proofs.Integers.{from_pos, spans_in}
+pub use Rattle.qws_base.proofs.Integers.{end_in}
 
 pub range_more : (i n : ℕ) → range_with_len i (n + 1) ≡ range_with_len i n ++ (i + n) ∷ []
 range_more i zero = ap (λ k. k ∷ []) (omega arith)
@@ -107,12 +109,6 @@ pub record RowPlace (size : Sides) (r : Rect) (i first : ℕ) : Type 0 where
   pub x_is : r.x ≡ pos (nat_abs r.x)
   pub y_is : r.y ≡ pos (nat_abs r.y)
 
-from_pos : (z : ℤ) → pos 0 ≤ℤ z → z ≡ pos (nat_abs z)
-from_pos z le = omega (arith, ints)
-
-pub end_in : (z : ℤ) (n m : ℕ) → pos 0 ≤ℤ z → (z +ℤ pos n) ≤ℤ pos m → nat_abs z + n ≤ m
-end_in z n m le end = omega (arith, ints)
-
 pub rect_place : (size : Sides) (r : Rect) (i width a b : ℕ) → IsWithin size r → HasPixels r → i < r.h → width ≡ size.w → a ≡ nat_abs r.y → b ≡ nat_abs r.x → RowPlace size r i ((a + i) * width + b)
 rect_place size r i width a b on has low w y x =
     let same : (a + i) * width + b ≡ (nat_abs r.y + i) * size.w + nat_abs r.x = ap (λ n. (n + i) * width + b) y ∙ ap (λ n. (nat_abs r.y + i) * n + b) w ∙ ap (λ n. (nat_abs r.y + i) * size.w + n) x in
@@ -129,9 +125,6 @@ rect_place size r i width a b on has low w y x =
       x_is = from_pos r.x on.from_left;
       y_is = from_pos r.y on.from_top;
     }
-
-spans_in : (x n at : ℕ) → x ≤ at → at < x + n → spans (pos x) n (pos at) ≡ true
-spans_in x n at low high = grind (arith, ints)
 
 pub row_in : (size : Sides) (r : Rect) (i first : ℕ) → RowPlace size r i first → i < r.h → (k : ℕ) → first ≤ k → k < first + r.w → (k < pixel_count size) × (holds r (point_of size.w k) ≡ true)
 row_in size r i first place low k from to =

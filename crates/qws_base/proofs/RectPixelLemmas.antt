@@ -1,5 +1,5 @@
 -- The pixels of rectangles are those that one of them has, each once.
-use Rattle.std.proofs.Common.{◌≡◌, ℕ, zero, suc, ◌+◌, ◌-◌, ◌*◌, ◌/◌, ◌%◌, ◌<◌, ◌≤◌, Bool, true, false, ◌&&◌, ◌||◌, List, [], ◌∷◌, sym, refl, ap, ◌∙◌, subst, arith, pos, nat_abs, ◌≤ℤ◌, ◌+ℤ◌, ℤ, int_le, int_lt}
+use Rattle.std.proofs.Common.{◌≡◌, ℕ, zero, suc, ◌+◌, ◌-◌, ◌*◌, ◌/◌, ◌%◌, ◌<◌, ◌≤◌, Bool, true, false, ◌&&◌, ◌||◌, List, [], ◌∷◌, sym, refl, ap, ◌∙◌, subst, arith, pos, nat_abs, ◌+ℤ◌, int_le, int_lt}
 use Rattle.std.specs.Prelude.{All}
 use Rattle.std.specs.List.{range_with_len}
 use Rattle.std.proofs.lemmas.Int.{ints}
@@ -13,6 +13,7 @@ use Rattle.qws_base.specs.Points.{holds, any_holds, point_of, pixel_count, spans
 use Rattle.qws_base.specs.RectPixels.{rect_pixels, IsWithin, RectPixelsLaw}
 use Rattle.qws_base.specs.declared.points.Point.{Point}
 use Rattle.qws_base.specs.declared.points.Rect.{Rect}
+use Rattle.qws_base.proofs.Integers.{from_pos, end_in, spans_in}
 use Rattle.qws_base.proofs.JoinedLemmas.{piece_of, in_piece, once_joined, number_at, nth_number}
 
 -- ---- one rectangle
@@ -39,15 +40,6 @@ place_of size r p inside =
     in_piece (λ i. range_with_len ((nat_abs r.y + i) * size.w + nat_abs r.x) r.w) (range_with_len 0 r.h) inside.i inside.j inside.i p
     (nth_number 0 r.h inside.i inside.low ∙ ap some (let z : 0 + inside.i ≡ inside.i = omega arith in z))
     (nth_number first r.w inside.j inside.left ∙ ap some (sym inside.is))
-
-end_in : (z : ℤ) (n m : ℕ) → pos 0 ≤ℤ z → (z +ℤ pos n) ≤ℤ pos m → nat_abs z + n ≤ m
-end_in z n m le end = omega (arith, ints)
-
-from_pos : (z : ℤ) → pos 0 ≤ℤ z → z ≡ pos (nat_abs z)
-from_pos z le = omega (arith, ints)
-
-spans_in : (x n at : ℕ) → x ≤ at → at < x + n → spans (pos x) n (pos at) ≡ true
-spans_in x n at low high = grind (arith, ints)
 
 spans_out : (x n at : ℕ) → spans (pos x) n (pos at) ≡ true → (x ≤ at) × (at < x + n)
 spans_out x n at e = let parts = and_parts (int_le (pos x) (pos at)) (int_lt (pos at) (pos x +ℤ pos n)) e in (grind (arith, ints), grind (arith, ints))

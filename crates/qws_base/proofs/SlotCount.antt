@@ -2,7 +2,7 @@
 use Rattle.std.proofs.Common.{◌≡◌, ℕ, ◌+◌, ◌<◌, ◌≤◌, zero, suc, Bool, true, false, not, ◌||◌, ◌==◌, cond, Some, List, [], ◌∷◌, length, refl, sym, ap, ◌∙◌, ⊎_elim, arith}
 use Rattle.std.specs.Prelude.{◌≢◌, nat_le, is_none, All, AllPairs}
 use Rattle.std.specs.List.{filter, find, range_with_len}
-use Rattle.std.proofs.lemmas.Bool.{false≢true, ne_eqb, cases_eq}
+use Rattle.std.proofs.lemmas.Bool.{false≢true, eqb-true, ne_eqb, cases_eq}
 use Rattle.std.proofs.lemmas.List.Elements.{All-head, All-tail, All-weaker}
 use Rattle.std.proofs.lemmas.List.FromFn.{length-range_with_len}
 use Rattle.qws_base.specs.Windows.{is_live}
@@ -65,14 +65,11 @@ not_live slot (w ∷ ws) h =
     ap (λ b. b || is_live ws slot) (ne_eqb w.slot slot (λ e. All-head (λ v. slot ≢ v.slot) w ws h (sym e)))
     ∙ not_live slot ws (All-tail (λ v. slot ≢ v.slot) w ws h)
 
-equal_is : (a b : ℕ) → (a == b) ≡ true → a ≡ b
-equal_is a b e = grind arith
-
 live_count : (ws : List WindowView) (n : ℕ) → All (λ w. w.slot < n) ws → AllPairs (λ v w. v.slot ≢ w.slot) ws → count (is_live ws) (range_with_len 0 n) ≡ length ws
 live_count [] n few once = ap length (none_passes (λ k. false) (range_with_len 0 n) (λ k d l. refl))
 live_count (w ∷ ws) n few once =
     let below : w.slot < n = All-head (λ v. v.slot < n) w ws few in
-    count_either (λ k. w.slot == k) (is_live ws) (λ k e. ap (is_live ws) (sym (equal_is w.slot k e)) ∙ not_live w.slot ws (pairs_head (λ v u. v.slot ≢ u.slot) w ws once)) (range_with_len 0 n)
+    count_either (λ k. w.slot == k) (is_live ws) (λ k e. ap (is_live ws) (sym (eqb-true w.slot k e)) ∙ not_live w.slot ws (pairs_head (λ v u. v.slot ≢ u.slot) w ws once)) (range_with_len 0 n)
     ∙ ap (λ m. m + count (is_live ws) (range_with_len 0 n)) (count_one w.slot 0 n (omega arith) (omega arith))
     ∙ ap (λ m. 1 + m) (live_count ws n (All-tail (λ v. v.slot < n) w ws few) (pairs_tail (λ v u. v.slot ≢ u.slot) w ws once))
     ∙ plus_one (length ws)

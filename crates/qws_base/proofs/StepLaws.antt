@@ -1,9 +1,9 @@
 -- Laws of a server's step.
 use Rattle.std.proofs.Common.{◌≡◌, ℕ, zero, suc, ◌+◌, ◌<◌, ◌≤◌, Bool, true, false, not, ◌&&◌, ◌||◌, ◌==◌, if◌then◌else◌, cond, Option, None, Some, List, [], ◌∷◌, refl, sym, ap, ◌∙◌, subst, ◌⊎◌, inl, inr, arith}
-use Rattle.std.specs.Prelude.{◌≢◌, nat_eq, All}
+use Rattle.std.specs.Prelude.{nat_eq, All}
 use Rattle.std.specs.List.{list_any, find, range_with_len}
-use Rattle.std.specs.Option.{option_map, option_map_or, option_eq}
-use Rattle.std.proofs.lemmas.Bool.{false≢true, and_parts, not-false}
+use Rattle.std.specs.Option.{option_map, option_eq}
+use Rattle.std.proofs.lemmas.Bool.{false≢true, and_parts, eqb-false, not-false}
 use Rattle.std.proofs.lemmas.Int.{ints}
 use Rattle.std.proofs.lemmas.List.Elements.{All-head, All-tail}
 use Rattle.std.proofs.lemmas.List.FromFn.{get_or-map-range_with_len}
@@ -33,11 +33,11 @@ refused_law size state client command h = ap (made state (completed size state (
 
 -- ---- revisions
 
-itself_client : (client : Option ℕ) → option_eq nat_eq client client ≡ true
+pub itself_client : (client : Option ℕ) → option_eq nat_eq client client ≡ true
 itself_client None = refl
 itself_client (Some c) = grind arith
 
-itself : (p : Point) → same_point p p ≡ true
+pub itself : (p : Point) → same_point p p ≡ true
 itself p = grind (arith, ints)
 
 completed_revision : (size : Sides) (before after : State) (slot : ℕ) → slot < 32 → revision_of (completed size before after) slot ≡ risen size before after.windows slot
@@ -54,7 +54,7 @@ rises_by size state after slot true low = omega arith
 
 -- ---- a slot that is as before
 
-allocated_on : (size : Sides) (windows : List WindowView) (slot : ℕ) → IsOnScreen size (allocated_points size windows slot)
+pub allocated_on : (size : Sides) (windows : List WindowView) (slot : ℕ) → IsOnScreen size (allocated_points size windows slot)
 allocated_on size windows slot p h = (and_parts (is_on_screen size p) (is_slot slot (owner_at windows p)) h).0
 
 same_client : (a b : Option ℕ) → option_eq nat_eq a b ≡ true → a ≡ b
@@ -124,7 +124,7 @@ revision_law = record {
 not_modified : (size : Sides) (windows : List WindowView) (slot : ℕ) → is_modified size windows windows slot ≡ false
 not_modified size windows slot = ap not (same_everywhere size (allocated_points size windows slot) (allocated_points size windows slot) (λ p. refl))
 
-not_changed : (size : Sides) (windows : List WindowView) (slot : ℕ) → is_changed size windows windows slot ≡ false
+pub not_changed : (size : Sides) (windows : List WindowView) (slot : ℕ) → is_changed size windows windows slot ≡ false
 not_changed size windows slot =
     ap (λ a. not a || not (same_point (origin_of windows slot) (origin_of windows slot)) || is_modified size windows windows slot) (itself_client (client_of_slot windows slot))
     ∙ ap (λ a. not a || is_modified size windows windows slot) (itself (origin_of windows slot))
@@ -176,12 +176,9 @@ one_owner_law size windows i j p h k =
 
 -- ---- all pixels of the requests
 
-differs : (i j : ℕ) → (i == j) ≡ false → i ≢ j
-differs i j f = λ same. grind arith
-
 any_by : (s a n : ℕ) (here : Bool) → (s == a) ≡ here → s < a + suc n → a ≤ s → (a + 1 ≤ s → s < a + 1 + n → list_any (λ slot. is_slot slot (Some s)) (range_with_len (a + 1) n) ≡ true) → (here || list_any (λ slot. is_slot slot (Some s)) (range_with_len (a + 1) n)) ≡ true
 any_by s a n true e high low later = refl
-any_by s a n false e high low later = let ne = differs s a e in later (omega (arith, ne)) (omega arith)
+any_by s a n false e high low later = let ne = eqb-false s a e in later (omega (arith, ne)) (omega arith)
 
 any_slot : (s a n : ℕ) → a ≤ s → s < a + n → list_any (λ slot. is_slot slot (Some s)) (range_with_len a n) ≡ true
 any_slot s a zero low high = absurd (omega arith)

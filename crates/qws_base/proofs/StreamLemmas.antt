@@ -1,9 +1,9 @@
 -- What is read and written piece by piece.
-use Rattle.std.proofs.Common.{◌≡◌, ℕ, ◌+◌, ◌-◌, ◌<◌, List, [], ◌++◌, length, take, drop, Option, None, Some, refl, ap, sym, ◌∙◌, append_assoc, rules}
+use Rattle.std.proofs.Common.{◌≡◌, ℕ, ◌+◌, ◌<◌, List, [], ◌++◌, length, take, drop, Option, None, Some, refl, ap, sym, ◌∙◌, append_assoc, rules}
 use Rattle.std.specs.Prelude.{⊤}
-use Rattle.std.proofs.lemmas.List.{take-append-drop, length-drop}
+use Rattle.std.proofs.lemmas.List.{take-append-drop}
 use Rattle.qws_base.specs.Outside.{GaveFirst, left_after, with_bytes, IsAll}
-use Rattle.std.proofs.Math.Seq.{take-add, take-length}
+use Rattle.std.proofs.Math.Seq.{take-add}
 
 -- where the source told its bytes, these are the first of them, and the others are left
 abbrev pub Gathered : Option (List ℕ) → List ℕ → Option (List ℕ) → Type 0
@@ -28,10 +28,6 @@ all_gathered (Some all) (Some left) after bytes piece had gave some is =
     let none : left ≡ [] = gave.2 refl some in
     let same : left ≡ had.0 = let e = had.2 in cc in
     (had.1 ∙ ap (λ x. bytes ++ x) (sym same ∙ none) ∙ search rules, is ∙ ap Some none)
-
--- `&bytes[at..]`, as goals have it
-pub rest_of : (bytes : List ℕ) (at : ℕ) → take (length bytes - at) (drop at bytes) ≡ drop at bytes
-rest_of bytes at = ap (λ n. take n (drop at bytes)) (sym (length-drop at bytes)) ∙ take-length (drop at bytes)
 
 pub more_written : (old now after : Option (List ℕ)) (bytes rest : List ℕ) (at n : ℕ) → rest ≡ drop at bytes → now ≡ with_bytes (take at bytes) old → after ≡ with_bytes (take n rest) now → after ≡ with_bytes (take (at + n) bytes) old
 more_written None now after bytes rest at n part is then = then ∙ ap (with_bytes (take n rest)) is

@@ -23,3 +23,4 @@ pub mod Shown
 pub mod Books
 pub mod Lending
 pub mod Equal
+pub mod Equalities

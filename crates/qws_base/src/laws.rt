@@ -3,6 +3,7 @@ ghost use Rattle.std.specs.Prelude.{◌≡◌, ◌<◌, ◌^◌};
 ghost use Rattle.qws_base.specs.Colours.{narrow_colour, wide_colour};
 ghost use Rattle.qws_base.specs.Inks.{blended_channel, ink_after};
 ghost use Rattle.qws_base.specs.Arranged.{ArrangedLaw};
+ghost use Rattle.qws_base.specs.Equalities.{EqualLaw};
 ghost use Rattle.qws_base.specs.Merges.{MergeLaw};
 ghost use Rattle.qws_base.specs.RectPixels.{RectPixelsLaw};
 ghost use Rattle.qws_base.specs.StepLaws.{AllAllocatedLaw, NoSlotLaw, OneOwnerLaw, OtherLaw, RefusedLaw, RevisionLaw, ToldLaw};
@@ -91,4 +92,10 @@ pub fn merges_by_order<X, Y>()
 /// each once.
 pub fn rects_have_pixels()
     ensures { RectPixelsLaw }
+{}
+
+/// `==` of commands, replies, events and entries passes exactly where both are the same.
+#[tactic(auto, using(crate::proofs::EqualLemmas::equal_law))]
+pub fn equal_values_are_same()
+    ensures { EqualLaw }
 {}

@@ -26,9 +26,9 @@ pub use gates::{Gate, NoGate, Place};
 pub use inks::{Ink, after, after_at};
 pub use journals::{Book, BookEntry, JournalEntry};
 pub use laws::{
-    all_allocated, merges_by_order, narrow_of_wide, no_slot_is_free, one_owner, opaque_blend,
-    other_commands_leave_windows, owners_are_told, rects_have_pixels, refused_stays,
-    revisions_rise, transparent_blend, windows_stay_arranged,
+    all_allocated, equal_values_are_same, merges_by_order, narrow_of_wide, no_slot_is_free,
+    one_owner, opaque_blend, other_commands_leave_windows, owners_are_told, rects_have_pixels,
+    refused_stays, revisions_rise, transparent_blend, windows_stay_arranged,
 };
 pub use lists::{Bytes, OutOfMemory, Rects, Words};
 pub use memory::{CleanSink, CleanSource, MemSink, MemSource};
