@@ -45,11 +45,6 @@ pub in_range : (a n k : ℕ) → a ≤ k → k < a + n → In k (range_with_len 
 in_range a zero k l m = absurd (omega arith)
 in_range a (suc n) k l m = ⊎_elim (λ (e : k ≡ a). inl e) (λ (above : a + 1 ≤ k). inr (in_range (a + 1) n k above (omega arith))) (next_or_above a k l)
 
-pub range_below : (a n k : ℕ) → In k (range_with_len a n) → k < a + n
-range_below a zero k m = absurd m
-range_below a (suc n) k (inl e) = omega (arith, e)
-range_below a (suc n) k (inr m) = let l = range_below (a + 1) n k m in omega (arith, l)
-
 -- ---- a test of all numbers of a range
 
 pub all_at : (test : ℕ → Bool) (a n : ℕ) → list_all test (range_with_len a n) ≡ true → (k : ℕ) → In k (range_with_len a n) → test k ≡ true

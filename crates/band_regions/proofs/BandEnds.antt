@@ -15,8 +15,8 @@ use Rattle.band_regions.specs.Rows.{IsSpan, IsBand, IsLevel, IsLeftOf}
 use Rattle.band_regions.specs.Bands.{IsUnmerged, IsSweptTo, taller}
 use Rattle.band_regions.proofs.ListLemmas.{pairs_of, pairs_append, pairs_left, pairs_right, pairs_across, pairs_under, each_append, each_left, each_right, each_both, each_weaker, filter_none, filter_all, each_map, pairs_map, filter-map, nil_of_map}
 use Rattle.band_regions.proofs.BandLemmas.{IsStacked, stacked, banded}
-use Rattle.band_regions.proofs.Bools.{or_assoc}
-use Rattle.band_regions.proofs.Spanning.{is_equal, different}
+use Rattle.qws_base.proofs.Booleans.{or_assoc}
+use Rattle.qws_base.proofs.Integers.{eq_test, not_eq_test}
 
 -- ---- equal spans, place by place
 
@@ -27,12 +27,6 @@ pub same_at : (xs ys : List Rect) (i : ℕ) (d : Rect) → i < length xs → map
 same_at xs ys i d l e =
     let n : length xs ≡ length ys = same_lengths xs ys e in
     sym (get_or-map span_of xs i d (span_of d) l) ∙ ap (λ zs. get_or zs i (span_of d)) e ∙ get_or-map span_of ys i d (span_of d) (omega arith)
-
-pub same_more : (xs ys : List Rect) (i : ℕ) (d : Rect) → i < length xs → i < length ys → map span_of (take i xs) ≡ map span_of (take i ys) → (get_or xs i d).x ≡ (get_or ys i d).x → (get_or xs i d).w ≡ (get_or ys i d).w → map span_of (take (i + 1) xs) ≡ map span_of (take (i + 1) ys)
-same_more xs ys i d l m e f g =
-    map_more span_of xs i d l ∙ ap (λ zs. zs ++ span_of (get_or xs i d) ∷ []) e
-    ∙ ap (λ x. map span_of (take i ys) ++ (x, (get_or xs i d).w) ∷ []) f ∙ ap (λ w. map span_of (take i ys) ++ ((get_or ys i d).x, w) ∷ []) g
-    ∙ sym (map_more span_of ys i d m)
 
 -- ---- a part that is changed element by element
 
@@ -135,17 +129,17 @@ without_start : (test : Rect → Bool) (xs ys : List Rect) → filter test xs �
 without_start test xs ys e = filter-append test xs ys ∙ ap (λ zs. zs ++ filter test ys) e
 
 none_starts : (z : ℤ) (xs : List Rect) → Each (λ r. r.y <ℤ z) xs → filter (starts_at z) xs ≡ []
-none_starts z xs h = filter_none (starts_at z) xs (each_weaker (λ r. r.y <ℤ z) (λ r. starts_at z r ≡ false) (λ r l. different r.y z (inl l)) xs h)
+none_starts z xs h = filter_none (starts_at z) xs (each_weaker (λ r. r.y <ℤ z) (λ r. starts_at z r ≡ false) (λ r l. not_eq_test r.y z (inl l)) xs h)
 
 none_ends : (z : ℤ) (xs : List Rect) → Each (λ r. (bottom r <ℤ z) ⊎ (z <ℤ bottom r)) xs → filter (ends_at z) xs ≡ []
-none_ends z xs h = filter_none (ends_at z) xs (each_weaker (λ r. (bottom r <ℤ z) ⊎ (z <ℤ bottom r)) (λ r. ends_at z r ≡ false) (λ r l. different (bottom r) z l) xs h)
+none_ends z xs h = filter_none (ends_at z) xs (each_weaker (λ r. (bottom r <ℤ z) ⊎ (z <ℤ bottom r)) (λ r. ends_at z r ≡ false) (λ r l. not_eq_test (bottom r) z l) xs h)
 
 unmerged_more : (y : ℤ) (height : ℕ) (before end band : List Rect) → 0 < height → IsGrown y before end → IsNewBand y height band → (map span_of end ≡ map span_of band → ⊥) → IsUnmerged ((before ++ end) ++ band)
 unmerged_more y height before end band some h k differs z same =
     by_lt_z z y
     (λ above.
     let starts : filter (starts_at z) ((before ++ end) ++ band) ≡ filter (starts_at z) (before ++ end) =
-    without_end (starts_at z) (before ++ end) band (filter_none (starts_at z) band (each_weaker (IsLevel y height) (λ r. starts_at z r ≡ false) (λ r l. let e = l.0 in different r.y z (inr (omega (arith, ints)))) band k.level)) in
+    without_end (starts_at z) (before ++ end) band (filter_none (starts_at z) band (each_weaker (IsLevel y height) (λ r. starts_at z r ≡ false) (λ r l. let e = l.0 in not_eq_test r.y z (inr (omega (arith, ints)))) band k.level)) in
     let ends : filter (ends_at z) ((before ++ end) ++ band) ≡ filter (ends_at z) (before ++ end) =
     without_end (ends_at z) (before ++ end) band (none_ends z band (each_weaker (IsLevel y height) (λ r. (bottom r <ℤ z) ⊎ (z <ℤ bottom r)) (λ r l. let e = l.0 in inr (omega (arith, ints))) band k.level)) in
     starts ∙ h.unmerged z (sym (ap (map span_of) ends) ∙ same ∙ ap (map span_of) starts))
@@ -160,12 +154,12 @@ unmerged_more y height before end band some h k differs z same =
     ends_there z e =
         without_end (ends_at z) (before ++ end) band (none_ends z band (each_weaker (IsLevel y height) (λ r. (bottom r <ℤ z) ⊎ (z <ℤ bottom r)) (λ r l. let a = l.0 in let b = l.1 in inr (omega (arith, ints))) band k.level))
         ∙ without_start (ends_at z) before end (none_ends z before (each_weaker (λ r. bottom r <ℤ y) (λ r. (bottom r <ℤ z) ⊎ (z <ℤ bottom r)) (λ r l. inl (omega (arith, ints))) before h.ended))
-        ∙ filter_all (ends_at z) end (each_weaker (λ r. bottom r ≡ y) (λ r. ends_at z r ≡ true) (λ r l. is_equal (bottom r) z (l ∙ sym e)) end h.ending)
+        ∙ filter_all (ends_at z) end (each_weaker (λ r. bottom r ≡ y) (λ r. ends_at z r ≡ true) (λ r l. eq_test (bottom r) z (l ∙ sym e)) end h.ending)
 
     starts_there : (z : ℤ) → z ≡ y → filter (starts_at z) ((before ++ end) ++ band) ≡ band
     starts_there z e =
         without_start (starts_at z) (before ++ end) band (none_starts z (before ++ end) (each_weaker (λ r. r.y <ℤ y) (λ r. r.y <ℤ z) (λ r l. omega (arith, ints)) (before ++ end) (all_above y before end h)))
-        ∙ filter_all (starts_at z) band (each_weaker (IsLevel y height) (λ r. starts_at z r ≡ true) (λ r l. is_equal r.y z (l.0 ∙ sym e)) band k.level)
+        ∙ filter_all (starts_at z) band (each_weaker (IsLevel y height) (λ r. starts_at z r ≡ true) (λ r l. eq_test r.y z (l.0 ∙ sym e)) band k.level)
 
 pub swept_more : (y : ℤ) (height last : ℕ) (rects band : List Rect) → IsSweptTo y last rects → 0 < height → negsuc 32767 ≤ℤ y → (y +ℤ pos height) ≤ℤ pos 32768 → IsBand y height band → (map span_of (drop last rects) ≡ map span_of band → ⊥) → IsSweptTo (y +ℤ pos height) (length rects) (rects ++ band)
 swept_more y height last rects band h some low high b differs =

@@ -11,11 +11,11 @@ use Rattle.qws_base.specs.Regions.{bottom, HasPixels, Precedes}
 use Rattle.qws_base.specs.declared.points.Point.{Point}
 use Rattle.qws_base.specs.declared.points.Rect.{Rect}
 use Rattle.band_regions.specs.Ranges.{IsInRange}
-use Rattle.band_regions.specs.Rows.{IsSpan, IsRow, IsLeftOf, has_column}
+use Rattle.band_regions.specs.Rows.{IsSpan, IsBandRow, IsLeftOf, has_column}
 use Rattle.band_regions.specs.Bands.{IsBanded, IsFirstLen, IsRestOfBands, EndsBelow, ReachesDown, in_row}
-use Rattle.band_regions.proofs.Bools.{or_false, and_true, and_false}
+use Rattle.qws_base.proofs.Booleans.{or_false, and_true, and_false}
 use Rattle.band_regions.proofs.ListLemmas.{Pairs, pairs_of, all_pairs_of, pairs_left, pairs_right, pairs_under, each_both, each_weaker, each_left, each_right, any_none, any_same}
-use Rattle.band_regions.proofs.Spanning.{not_before, not_after, spans_from}
+use Rattle.qws_base.proofs.Integers.{spans_not_before, spans_not_after, spans_from}
 
 -- the facts of bands by recursion
 pub record IsStacked (rects : List Rect) : Type 0 where
@@ -81,7 +81,7 @@ reach_above rects d next l h e = λ k t m. let top = tops rects d next l h e k t
 
 pub none_above : (rects : List Rect) (d : Rect) (p : Point) → 0 < length rects → IsBanded rects → p.y <ℤ (get_or rects 0 d).y → any_holds rects p ≡ false
 none_above rects d p l h k =
-    any_none (λ r. holds r p) rects (each_weaker (λ s. (get_or rects 0 d).y ≤ℤ s.y) (λ s. holds s p ≡ false) (λ s m. row_no s p (not_before s.y p.y s.h (omega (arith, ints)))) rects
+    any_none (λ r. holds r p) rects (each_weaker (λ s. (get_or rects 0 d).y ≤ℤ s.y) (λ s. holds s p ≡ false) (λ s m. row_no s p (spans_not_before s.y p.y s.h (omega (arith, ints)))) rects
     (recursion_from_All (λ s. (get_or rects 0 d).y ≤ℤ s.y) rects (tops rects d (get_or rects 0 d).y l h refl)))
 
 pub reach_below : (rects : List Rect) (d : Rect) (next : ℤ) → 0 < length rects → IsBanded rects → next ≡ bottom (get_or rects 0 d) → All (ReachesDown next) rects
@@ -90,7 +90,7 @@ reach_below (r ∷ rs) d next l h e = All-from_recursion (ReachesDown next) (r �
 
 same_rows : (r s : Rect) (a b : ℤ) → IsFrom r s → r.y ≤ℤ a → a ≤ℤ b → b <ℤ bottom r → spans s.y s.h b ≡ spans s.y s.h a
 same_rows r s a b (inl same) l m k = let e = same.0 in let f = same.1 in spans_from s.y b s.h (omega (arith, ints)) (omega (arith, ints)) ∙ sym (spans_from s.y a s.h (omega (arith, ints)) (omega (arith, ints)))
-same_rows r s a b (inr below) l m k = not_before s.y b s.h (omega (arith, ints)) ∙ sym (not_before s.y a s.h (omega (arith, ints)))
+same_rows r s a b (inr below) l m k = spans_not_before s.y b s.h (omega (arith, ints)) ∙ sym (spans_not_before s.y a s.h (omega (arith, ints)))
 
 pub alike_in_band : (rects : List Rect) (d : Rect) (from : ℤ) (p : Point) → 0 < length rects → IsBanded rects → (get_or rects 0 d).y ≤ℤ from → from ≤ℤ p.y → p.y <ℤ bottom (get_or rects 0 d) → any_holds rects p ≡ any_holds rects (in_row from p)
 alike_in_band [] d from p l h a b c = refl
@@ -160,7 +160,7 @@ gap_in_band top r s h k (inr below) = let e = h.1 in let f = k.1 in let p = h.0.
 span_from : (r : Rect) → IsInRange r → HasPixels r → IsSpan r
 span_from r h p = record { wide = p.0; low = h.low_x; high = h.high_right }
 
-pub row_of_band : (rects : List Rect) (top : ℤ) → IsStacked rects → Each (λ s. s.y ≡ top) rects → IsRow rects
+pub row_of_band : (rects : List Rect) (top : ℤ) → IsStacked rects → Each (λ s. s.y ≡ top) rects → IsBandRow rects
 row_of_band rects top h e = record {
   each = All-from_recursion IsSpan rects (each_both IsInRange HasPixels IsSpan span_from rects h.range h.pixels);
   gapped = all_pairs_of IsLeftOf rects (pairs_under (λ s. HasPixels s × (s.y ≡ top)) Precedes IsLeftOf (gap_in_band top) rects (each_both HasPixels (λ s. s.y ≡ top) (λ s. HasPixels s × (s.y ≡ top)) (λ s p q. (p, q)) rects h.pixels e) h.sorted);
@@ -171,7 +171,7 @@ any_parts n rects p = ap (λ xs. any_holds xs p) (sym (take-append-drop n rects)
 
 -- the row of a band is the columns of its points
 pub record IsRowAt (row : ℤ) (rects spans : List Rect) : Type 0 where
-  pub is_row : IsRow spans
+  pub is_row : IsBandRow spans
   pub columns : (p : Point) → has_column spans p.x ≡ any_holds rects (in_row row p)
 
 pub row_of_first : (rects : List Rect) (d : Rect) (n : ℕ) (row : ℤ) → 0 < length rects → IsBanded rects → IsFirstBand (get_or rects 0 d).y n rects → (get_or rects 0 d).y ≤ℤ row → All (EndsBelow row) rects → IsRowAt row rects (take n rects)
@@ -184,7 +184,7 @@ row_of_first (r ∷ rs) d n row l h f a b =
       columns = λ p.
           any_same (λ s. spans s.x s.w p.x) (λ s. holds s (in_row row p)) (take n (r ∷ rs)) (each_weaker (λ s. (s.y ≡ r.y) × (s.h ≡ r.h)) (λ s. spans s.x s.w p.x ≡ holds s (in_row row p)) (λ s k. let e = k.0 in let g = k.1 in sym (row_yes s (in_row row p) (spans_from s.y row s.h (omega (arith, ints)) (omega (arith, ints))))) (take n (r ∷ rs)) it.level)
           ∙ sym (any_parts n (r ∷ rs) (in_row row p)
-          ∙ ap (λ t. any_holds (take n (r ∷ rs)) (in_row row p) || t) (any_none (λ s. holds s (in_row row p)) (drop n (r ∷ rs)) (each_weaker (λ s. bottom r ≤ℤ s.y) (λ s. holds s (in_row row p) ≡ false) (λ s k. row_no s (in_row row p) (not_before s.y row s.h (omega (arith, ints)))) (drop n (r ∷ rs)) it.after))
+          ∙ ap (λ t. any_holds (take n (r ∷ rs)) (in_row row p) || t) (any_none (λ s. holds s (in_row row p)) (drop n (r ∷ rs)) (each_weaker (λ s. bottom r ≤ℤ s.y) (λ s. holds s (in_row row p) ≡ false) (λ s k. row_no s (in_row row p) (spans_not_before s.y row s.h (omega (arith, ints)))) (drop n (r ∷ rs)) it.after))
           ∙ or_false (any_holds (take n (r ∷ rs)) (in_row row p)));
     }
 
@@ -199,7 +199,7 @@ past_band (r ∷ rs) d n row l h f a b =
       is_banded = banded (drop n (r ∷ rs)) rest;
       ahead = All-from_recursion (EndsBelow row) (drop n (r ∷ rs)) (each_both HasPixels (λ s. bottom r ≤ℤ s.y) (EndsBelow row) (λ s p k. let q = p.1 in omega (arith, ints)) (drop n (r ∷ rs)) rest.pixels it.after);
       same = λ p m. sym (any_parts n (r ∷ rs) p
-          ∙ ap (λ t. t || any_holds (drop n (r ∷ rs)) p) (any_none (λ s. holds s p) (take n (r ∷ rs)) (each_weaker (λ s. (s.y ≡ r.y) × (s.h ≡ r.h)) (λ s. holds s p ≡ false) (λ s k. let e = k.0 in let g = k.1 in row_no s p (not_after s.y p.y s.h (omega (arith, ints)))) (take n (r ∷ rs)) it.level)));
+          ∙ ap (λ t. t || any_holds (drop n (r ∷ rs)) p) (any_none (λ s. holds s p) (take n (r ∷ rs)) (each_weaker (λ s. (s.y ≡ r.y) × (s.h ≡ r.h)) (λ s. holds s p ≡ false) (λ s k. let e = k.0 in let g = k.1 in row_no s p (spans_not_after s.y p.y s.h (omega (arith, ints)))) (take n (r ∷ rs)) it.level)));
     }
 
 pub past_no_band : (rects : List Rect) (d : Rect) (row : ℤ) → 0 < length rects → IsBanded rects → row <ℤ bottom (get_or rects 0 d) → IsRestOfBands row rects rects

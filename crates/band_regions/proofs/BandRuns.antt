@@ -1,6 +1,6 @@
 -- The front of a list that is canonical as it stands: a band, span by span; bands, one by one.
-use Rattle.std.proofs.Common.{◌≡◌, ℕ, ◌+◌, ◌<◌, ◌≤◌, List, [], ◌∷◌, ◌++◌, length, get_or, map, take, drop, refl, sym, ap, ◌∙◌, subst, arith}
-use Rattle.std.specs.Prelude.{ℤ, negsuc, ◌≤ℤ◌}
+use Rattle.std.proofs.Common.{◌≡◌, ℕ, ◌+◌, ◌<◌, ◌≤◌, List, [], ◌∷◌, ◌++◌, length, get_or, map, take, drop, sym, ap, ◌∙◌, subst, arith}
+use Rattle.std.specs.Prelude.{ℤ, ◌≤ℤ◌}
 use Rattle.std.specs.List.{AllByRecursion as Each}
 use Rattle.std.proofs.lemmas.Int.{ints, by_lt_z}
 use Rattle.std.proofs.Math.Seq.{take-append-add}
@@ -13,7 +13,6 @@ use Rattle.band_regions.specs.Rows.{IsSpan, IsLevel, IsLeftOf}
 use Rattle.band_regions.specs.Bands.{IsSweptTo}
 use Rattle.band_regions.specs.Runs.{IsNext, IsBandRun}
 use Rattle.band_regions.proofs.ListLemmas.{Pairs, all_pairs_of, pairs_append, each_append, each_weaker}
-use Rattle.band_regions.proofs.BandLemmas.{banded}
 use Rattle.band_regions.proofs.BandEnds.{same_lengths, swept_on, swept_more}
 
 -- the first rectangles are a band that ends at a column or before
@@ -59,15 +58,6 @@ run_of n end rects l h = record {
 take_on : (n m : ℕ) (rects : List Rect) → n ≤ length rects → take (n + m) rects ≡ take n rects ++ take m (drop n rects)
 take_on n m rects l =
     ap (take (n + m)) (sym (take-append-drop n rects)) ∙ ap (λ k. take (k + m) (take n rects ++ drop n rects)) (sym (length-take-le n rects l)) ∙ take-append-add (take n rects) (drop n rects) m
-
-pub nothing_swept : (rects : List Rect) → IsSweptTo (negsuc 32767) 0 (take 0 rects)
-nothing_swept rects = record {
-  is_banded = banded [] (record { range = tt; pixels = tt; sorted = tt });
-  unmerged = λ y e. refl;
-  within = omega arith;
-  ended = λ i d l. absurd (omega arith);
-  ending = λ i d l. absurd (omega arith);
-}
 
 -- a band that goes on with what is canonical so far: it starts below, or where that ends with other spans
 pub swept_run : (y : ℤ) (last end n : ℕ) (rects : List Rect) (d : Rect) → end ≤ length rects → 0 < n → IsSweptTo y last (take end rects) → IsInRange (get_or (drop end rects) 0 d) → IsBandRun n (drop end rects)

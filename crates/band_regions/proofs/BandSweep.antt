@@ -13,11 +13,11 @@ use Rattle.qws_base.specs.declared.points.Rect.{Rect}
 use Rattle.band_regions.specs.declared.operations.Operation.{Operation}
 use Rattle.band_regions.specs.declared.operations.Operation.TheVariants.{Unite, Meet, Minus}
 use Rattle.band_regions.specs.Operations.{keeps}
-use Rattle.band_regions.specs.Ranges.{IsInRange, IsKept}
+use Rattle.band_regions.specs.Ranges.{IsInRange, IsInForm}
 use Rattle.band_regions.specs.Rows.{IsBand, IsLevel, has_column}
 use Rattle.band_regions.specs.Bands.{IsBanded, IsRestOfBands, IsSweptTo, EndsBelow, ReachesDown, in_row}
 use Rattle.band_regions.proofs.ListLemmas.{any_none, any_same, each_weaker, each_both, each_append}
-use Rattle.band_regions.proofs.Spanning.{not_before, not_after, spans_from}
+use Rattle.qws_base.proofs.Integers.{spans_not_before, spans_not_after, spans_from}
 use Rattle.band_regions.proofs.BandLemmas.{row_no, row_yes}
 
 both_false : (operation : Operation) (a b : Bool) → a ≡ false → b ≡ false → keeps operation a b ≡ false
@@ -35,7 +35,7 @@ pub record IsSwept (operation : Operation) (first second : List Rect) (y : ℤ) 
   pub points : (p : Point) → p.y <ℤ y → any_holds rects p ≡ keeps operation (any_holds first p) (any_holds second p)
 
 none_high : (rects : List Rect) (p : Point) → IsBanded rects → p.y <ℤ negsuc 32767 → any_holds rects p ≡ false
-none_high rects p h l = any_none (λ r. holds r p) rects (each_weaker IsInRange (λ r. holds r p ≡ false) (λ r k. let low = k.low_y in row_no r p (not_before r.y p.y r.h (omega (arith, ints)))) rects (recursion_from_All IsInRange rects h.in_range))
+none_high rects p h l = any_none (λ r. holds r p) rects (each_weaker IsInRange (λ r. holds r p ≡ false) (λ r k. let low = k.low_y in row_no r p (spans_not_before r.y p.y r.h (omega (arith, ints)))) rects (recursion_from_All IsInRange rects h.in_range))
 
 all_bands : (rects : List Rect) → IsBanded rects → IsRestOfBands (negsuc 32767) rects rects
 all_bands rects h = record {
@@ -64,11 +64,11 @@ none_under : (y : ℤ) (last : ℕ) (rects : List Rect) (p : Point) → IsSweptT
 none_under y last rects p h l =
     any_none (λ r. holds r p) rects (subst (Each (λ r. holds r p ≡ false)) (take-append-drop last rects)
     (each_append (λ r. holds r p ≡ false) (take last rects) (drop last rects)
-    (each_weaker (λ r. bottom r <ℤ y) (λ r. holds r p ≡ false) (λ r m. row_no r p (not_after r.y p.y r.h (omega (arith, ints)))) (take last rects) (recursion_from_All (λ r. bottom r <ℤ y) (take last rects) h.ended))
-    (each_weaker (λ r. bottom r ≡ y) (λ r. holds r p ≡ false) (λ r m. row_no r p (not_after r.y p.y r.h (omega (arith, ints)))) (drop last rects) (recursion_from_All (λ r. bottom r ≡ y) (drop last rects) h.ending))))
+    (each_weaker (λ r. bottom r <ℤ y) (λ r. holds r p ≡ false) (λ r m. row_no r p (spans_not_after r.y p.y r.h (omega (arith, ints)))) (take last rects) (recursion_from_All (λ r. bottom r <ℤ y) (take last rects) h.ended))
+    (each_weaker (λ r. bottom r ≡ y) (λ r. holds r p ≡ false) (λ r m. row_no r p (spans_not_after r.y p.y r.h (omega (arith, ints)))) (drop last rects) (recursion_from_All (λ r. bottom r ≡ y) (drop last rects) h.ending))))
 
 none_in_band : (y : ℤ) (height : ℕ) (band : List Rect) (p : Point) → IsBand y height band → p.y <ℤ y → any_holds band p ≡ false
-none_in_band y height band p h l = any_none (λ r. holds r p) band (each_weaker (IsLevel y height) (λ r. holds r p ≡ false) (λ r k. let e = k.0 in row_no r p (not_before r.y p.y r.h (omega (arith, ints)))) band (recursion_from_All (IsLevel y height) band h.level))
+none_in_band y height band p h l = any_none (λ r. holds r p) band (each_weaker (IsLevel y height) (λ r. holds r p ≡ false) (λ r k. let e = k.0 in row_no r p (spans_not_before r.y p.y r.h (omega (arith, ints)))) band (recursion_from_All (IsLevel y height) band h.level))
 
 in_band : (y : ℤ) (height : ℕ) (band : List Rect) (p : Point) → IsBand y height band → y ≤ℤ p.y → p.y <ℤ (y +ℤ pos height) → any_holds band p ≡ has_column band p.x
 in_band y height band p h l m = any_same (λ r. holds r p) (λ r. spans r.x r.w p.x) band (each_weaker (IsLevel y height) (λ r. holds r p ≡ spans r.x r.w p.x) (λ r k. let e = k.0 in let f = k.1 in row_yes r p (spans_from r.y p.y r.h (omega (arith, ints)) (omega (arith, ints)))) band (recursion_from_All (IsLevel y height) band h.level))
@@ -132,5 +132,5 @@ swept_all operation first second y last f s rects h e g p =
     ∙ sym (both_false operation (any_holds first p) (any_holds second p)
     (sym (h.first_left.same p at) ∙ ap (λ xs. any_holds xs p) e) (sym (h.second_left.same p at) ∙ ap (λ xs. any_holds xs p) g)))
 
-pub kept : (y : ℤ) (last : ℕ) (rects : List Rect) → IsSweptTo y last rects → IsKept rects
+pub kept : (y : ℤ) (last : ℕ) (rects : List Rect) → IsSweptTo y last rects → IsInForm rects
 kept y last rects h = record { canonical = record { some_pixels = h.is_banded.some_pixels; sorted = h.is_banded.sorted; unmerged = h.unmerged }; in_range = h.is_banded.in_range }

@@ -1,10 +1,10 @@
 -- The rectangles of a canonical list begin at the corners of its set.
-use Rattle.std.proofs.Common.{◌≡◌, ℕ, ◌+◌, ◌*◌, ◌/◌, ◌%◌, ◌<◌, Bool, true, false, not, ◌&&◌, List, [], ◌∷◌, length, map, refl, sym, ap, ◌∙◌, subst, ◌⊎◌, ⊎_elim, inl, inr, arith, mul_comm}
+use Rattle.std.proofs.Common.{◌≡◌, ℕ, ◌+◌, ◌*◌, ◌/◌, ◌%◌, ◌<◌, Bool, true, false, not, ◌&&◌, List, [], ◌∷◌, length, map, sym, ap, ◌∙◌, subst, inl, inr, arith, mul_comm}
 use Rattle.std.specs.Prelude.{ℤ, pos, ◌-ℤ◌, ◌<ℤ◌, ◌≤ℤ◌, nat_abs}
 use mathlib.Core.Bool.{beq}
 use Rattle.std.specs.List.{AllByRecursion as Each}
 use Rattle.std.proofs.lemmas.Int.{ints, by_lt_z}
-use Rattle.std.proofs.lemmas.Bool.{false≢true, and_parts, and_from}
+use Rattle.std.proofs.lemmas.Bool.{false≢true, and_parts, and_from, false_from_ne_true, not-true}
 use Rattle.std.proofs.lemmas.Nat.{mul-add-lt, div-mul-add, mod-mul-add, div-add-mod'}
 use Rattle.std.proofs.lemmas.List.{length-map}
 use Rattle.qws_base.specs.Sides.{Sides}
@@ -12,8 +12,10 @@ use Rattle.qws_base.specs.Points.{spans, any_holds, is_on_screen, pixels, pixel_
 use Rattle.qws_base.specs.Regions.{HasPixels, Precedes, IsRegionOf, IsOnScreen, same_pixels, is_as_above, is_corner, corners, rect_count}
 use Rattle.qws_base.specs.declared.points.Point.{Point}
 use Rattle.qws_base.specs.declared.points.Rect.{Rect}
-use Rattle.band_regions.proofs.ListLemmas.{In, Pairs, each_from_in, pairs_filter, filter_in, passes_in, same_bools}
-use Rattle.band_regions.proofs.Spanning.{low_of, high_of, spans_from}
+use Rattle.qws_base.proofs.PixelLemmas.{same_on_screen}
+use Rattle.qws_base.proofs.Booleans.{equal_from, equal_to, same_test}
+use Rattle.band_regions.proofs.ListLemmas.{In, Pairs, each_from_in, pairs_filter, filter_in, passes_in}
+use Rattle.qws_base.proofs.Integers.{spans_low, spans_high, spans_from}
 use Rattle.band_regions.proofs.Uniqueness.{at, IsPiece, IsGood, good, holder, first_row, piece, moved, same_lists}
 use Rattle.band_regions.proofs.Ascending.{IsBelow, same_ascending, range_ascends, in_range, all_at, all_from, in_map, from_map}
 
@@ -32,8 +34,8 @@ record IsPixel (size : Sides) (x y : ℤ) : Type 0 where
 pixel_on : (size : Sides) (x y : ℤ) → is_on_screen size (at x y) ≡ true → IsPixel size x y
 pixel_on size x y h =
     let parts = and_parts (spans (pos 0) size.w x) (spans (pos 0) size.h y) h in
-    let a = low_of (pos 0) x size.w parts.0 in let b = high_of (pos 0) x size.w parts.0 in
-    let c = low_of (pos 0) y size.h parts.1 in let d = high_of (pos 0) y size.h parts.1 in
+    let a = spans_low (pos 0) x size.w parts.0 in let b = spans_high (pos 0) x size.w parts.0 in
+    let c = spans_low (pos 0) y size.h parts.1 in let d = spans_high (pos 0) y size.h parts.1 in
     record { low_x = a; high_x = omega (arith, ints, a, b); low_y = c; high_y = omega (arith, ints, c, d) }
 
 same_point : (x y u v : ℤ) → x ≡ u → y ≡ v → at x y ≡ at u v
@@ -60,19 +62,7 @@ record IsOff (size : Sides) (set : Point → Bool) : Type 0 where
   pub none : (x y : ℤ) → (IsPixel size x y → ⊥) → set (at x y) ≡ false
 
 off : (size : Sides) (set : Point → Bool) → IsOnScreen size set → IsOff size set
-off size set on = record { none = λ x y h. same_bools (set (at x y)) false (λ e. absurd (h (pixel_on size x y (on (at x y) e)))) (λ e. absurd (false≢true e)) }
-
-equal_from : (a b : Bool) → beq a b ≡ true → a ≡ b
-equal_from true true h = refl
-equal_from true false h = cc
-equal_from false true h = cc
-equal_from false false h = refl
-
-equal_to : (a b : Bool) → a ≡ b → beq a b ≡ true
-equal_to true true h = refl
-equal_to true false h = sym h
-equal_to false true h = h
-equal_to false false h = refl
+off size set on = record { none = λ x y h. same_test (set (at x y)) false (λ e. absurd (h (pixel_on size x y (on (at x y) e)))) (λ e. absurd (false≢true e)) }
 
 abbrev Alike : (Point → Bool) → ℤ → Type 0
 Alike set y = (x : ℤ) → set (at x (y -ℤ pos 1)) ≡ set (at x y)
@@ -100,10 +90,6 @@ alike_to size set y same =
 
 -- ---- each rectangle begins at a corner
 
-is_false : (b : Bool) → (b ≡ true → ⊥) → b ≡ false
-is_false true h = absurd (h refl)
-is_false false h = refl
-
 -- the three facts of a corner
 record IsCornerOf (size : Sides) (set : Point → Bool) (x y : ℤ) : Type 0 where
   pub there : set (at x y) ≡ true
@@ -116,15 +102,11 @@ corner_from size set x y c =
     (and_from (set (at x y)) (not (set (at (x -ℤ pos 1) y))) c.there (ap not c.left_out))
     (ap not c.differs)
 
-not_true : (b : Bool) → not b ≡ true → b ≡ false
-not_true true h = sym h
-not_true false h = refl
-
 corner_parts : (size : Sides) (set : Point → Bool) (x y : ℤ) → is_corner size set (at x y) ≡ true → IsCornerOf size set x y
 corner_parts size set x y h =
     let outer = and_parts (set (at x y) && not (set (at (x -ℤ pos 1) y))) (not (is_as_above size set y)) h in
     let inner = and_parts (set (at x y)) (not (set (at (x -ℤ pos 1) y))) outer.0 in
-    record { there = inner.0; left_out = not_true (set (at (x -ℤ pos 1) y)) inner.1; differs = not_true (is_as_above size set y) outer.1 }
+    record { there = inner.0; left_out = not-true (set (at (x -ℤ pos 1) y)) inner.1; differs = not-true (is_as_above size set y) outer.1 }
 
 first_column : (r : Rect) → HasPixels r → spans r.x r.w r.x ≡ true
 first_column r p = spans_from r.x r.x r.w (omega (arith, ints)) (omega (arith, ints, p.0))
@@ -136,7 +118,7 @@ piece_corner : (size : Sides) (set : Point → Bool) (r : Rect) → IsOnScreen s
 piece_corner size set r on p = record {
   there = piece_there set r p;
   left_out = p.left_out r.y (first_row r p.pixels);
-  differs = is_false (is_as_above size set r.y) (λ h. p.above_differs (alike_from size set r.y on h));
+  differs = false_from_ne_true (is_as_above size set r.y) (λ h. p.above_differs (alike_from size set r.y on h));
 }
 
 piece_pixel : (size : Sides) (set : Point → Bool) (r : Rect) → IsOnScreen size set → IsPiece set r → IsPixel size r.x r.y
@@ -146,16 +128,16 @@ piece_pixel size set r on p = pixel_on size r.x r.y (on (at r.x r.y) (piece_ther
 
 corner_top : (size : Sides) (set : Point → Bool) (r : Rect) (x y : ℤ) → IsPiece set r → IsCornerOf size set x y → spans r.y r.h y ≡ true → y ≡ r.y
 corner_top size set r x y p c h =
-    let low = low_of r.y y r.h h in
-    let high = high_of r.y y r.h h in
+    let low = spans_low r.y y r.h h in
+    let high = spans_high r.y y r.h h in
     by_lt_z r.y y
     (λ l. absurd (false≢true (sym c.differs ∙ alike_to size set y (λ u. p.alike u (y -ℤ pos 1) y (spans_from r.y (y -ℤ pos 1) r.h (omega (arith, ints)) (omega (arith, ints))) h))))
     (λ l. omega (arith, ints))
 
 corner_left : (size : Sides) (set : Point → Bool) (r : Rect) (x y : ℤ) → IsPiece set r → IsCornerOf size set x y → spans r.x r.w x ≡ true → spans r.y r.h y ≡ true → x ≡ r.x
 corner_left size set r x y p c k h =
-    let low = low_of r.x x r.w k in
-    let high = high_of r.x x r.w k in
+    let low = spans_low r.x x r.w k in
+    let high = spans_high r.x x r.w k in
     by_lt_z r.x x
     (λ l. absurd (false≢true (sym c.left_out ∙ p.inside (x -ℤ pos 1) y (spans_from r.x (x -ℤ pos 1) r.w (omega (arith, ints)) (omega (arith, ints))) h)))
     (λ l. omega (arith, ints))
@@ -233,28 +215,6 @@ pub count_is : (size : Sides) (rects : List Rect) (set : Point → Bool) → IsO
 count_is size rects set on region = sym (length-map rects (corner_of size)) ∙ ap length (corners_are size rects set on region)
 
 -- ---- one canonical list for one set of pixels
-
-pixel_of_point : (size : Sides) (x y : ℤ) → IsPixel size x y → (k : ℕ) × (k < 0 + pixel_count size) × (point_of size.w k ≡ at x y)
-pixel_of_point size x y p =
-    let r : Rect = record { x = x; y = y; w = 0; h = 0 } in
-    (corner_of size r, corner_below size r p, point_there size r p)
-
-both_off : (a b : Bool) → (a ≡ true → ⊥) → (b ≡ true → ⊥) → a ≡ b
-both_off a b h k = is_false a h ∙ sym (is_false b k)
-
-on_or_off : (b : Bool) → (b ≡ true) ⊎ (b ≡ false)
-on_or_off true = inl refl
-on_or_off false = inr refl
-
-same_on_screen : (size : Sides) (set other : Point → Bool) → IsOnScreen size set → IsOnScreen size other → same_pixels size set other ≡ true → (p : Point) → set p ≡ other p
-same_on_screen size set other on off same p = ⊎_elim
-    (λ (h : is_on_screen size p ≡ true).
-    let found = pixel_of_point size p.x p.y (pixel_on size p.x p.y h) in
-    let k : ℕ = found.0 in
-    let equal = all_at (λ n. beq (set (point_of size.w n)) (other (point_of size.w n))) 0 (pixel_count size) same k (in_range 0 (pixel_count size) k (omega arith) found.1) in
-    subst (λ q. set q ≡ other q) found.2 (equal_from (set (point_of size.w k)) (other (point_of size.w k)) equal))
-    (λ (h : is_on_screen size p ≡ false). both_off (set p) (other p) (λ e. false≢true (sym h ∙ on p e)) (λ e. false≢true (sym h ∙ off p e)))
-    (on_or_off (is_on_screen size p))
 
 -- two sets of pixels are the same exactly where their canonical lists are
 pub lists_same : (size : Sides) (xs ys : List Rect) (set other : Point → Bool) → IsOnScreen size set → IsOnScreen size other → IsRegionOf xs set → IsRegionOf ys other → same_pixels size set other ≡ true → xs ≡ ys

@@ -12,8 +12,8 @@ use Rattle.qws_base.specs.declared.points.Point.{Point}
 use Rattle.qws_base.specs.declared.points.Rect.{Rect}
 use Rattle.band_regions.specs.Ranges.{IsInRange}
 use Rattle.band_regions.specs.Around.{IsHull, IsLeastAround}
-use Rattle.band_regions.proofs.Bools.{or_false}
-use Rattle.band_regions.proofs.Spanning.{low_of, high_of, spans_from}
+use Rattle.qws_base.proofs.Booleans.{or_false}
+use Rattle.qws_base.proofs.Integers.{spans_low, spans_high, spans_from}
 
 -- a rectangle's columns and rows are within another's
 record IsWithin (r s : Rect) : Type 0 where
@@ -33,16 +33,16 @@ within r s some h =
     let last : Point = record { x = right r -ℤ pos 1; y = bottom r -ℤ pos 1 } in
     let a = and_parts (spans s.x s.w r.x) (spans s.y s.h r.y) (h first (there r first (omega (arith, ints)) (omega (arith, ints)) (omega (arith, ints)) (omega (arith, ints)))) in
     let b = and_parts (spans s.x s.w (right r -ℤ pos 1)) (spans s.y s.h (bottom r -ℤ pos 1)) (h last (there r last (omega (arith, ints)) (omega (arith, ints)) (omega (arith, ints)) (omega (arith, ints)))) in
-    let left = low_of s.x r.x s.w a.0 in
-    let top = low_of s.y r.y s.h a.1 in
-    let ends = high_of s.x (right r -ℤ pos 1) s.w b.0 in
-    let low = high_of s.y (bottom r -ℤ pos 1) s.h b.1 in
+    let left = spans_low s.x r.x s.w a.0 in
+    let top = spans_low s.y r.y s.h a.1 in
+    let ends = spans_high s.x (right r -ℤ pos 1) s.w b.0 in
+    let low = spans_high s.y (bottom r -ℤ pos 1) s.h b.1 in
     record { left = left; ends = omega (arith, ints); top = top; low = omega (arith, ints) }
 
 in_wider : (r s : Rect) (p : Point) → IsWithin r s → holds r p ≡ true → holds s p ≡ true
 in_wider r s p h e =
     let parts = and_parts (spans r.x r.w p.x) (spans r.y r.h p.y) e in
-    let a = low_of r.x p.x r.w parts.0 in let b = high_of r.x p.x r.w parts.0 in let c = low_of r.y p.y r.h parts.1 in let d = high_of r.y p.y r.h parts.1 in
+    let a = spans_low r.x p.x r.w parts.0 in let b = spans_high r.x p.x r.w parts.0 in let c = spans_low r.y p.y r.h parts.1 in let d = spans_high r.y p.y r.h parts.1 in
     let left = h.left in let ends = h.ends in let top = h.top in let low = h.low in
     there s p (omega (arith, ints)) (omega (arith, ints)) (omega (arith, ints)) (omega (arith, ints))
 
@@ -78,10 +78,6 @@ around_more rects i d r t l some more h hull = record {
     from_either : (p : Point) → (any_holds (take i rects) p ≡ true) ⊎ (holds (get_or rects i d) p ≡ true) → holds t p ≡ true
     from_either p (inl e) = in_wider r t p (first_within r (get_or rects i d) t hull) (h.holds_all p e)
     from_either p (inr e) = in_wider (get_or rects i d) t p (second_within r (get_or rects i d) t hull) e
-
-pub around_one : (rects : List Rect) (d : Rect) → 0 < length rects → IsLeastAround (get_or rects 0 d) (any_holds (take 1 rects))
-around_one [] d l = absurd (omega arith)
-around_one (r ∷ rs) d l = record { holds_all = λ p e. sym (or_false (holds r p)) ∙ e; least = λ s h p e. h p (or_false (holds r p) ∙ e) }
 
 pub record IsHullOf (r s t : Rect) : Type 0 where
   pub hull : IsHull r s t

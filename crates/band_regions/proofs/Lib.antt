@@ -1,6 +1,4 @@
-pub mod Bools
 pub mod ListLemmas
-pub mod Spanning
 pub mod SameSpans
 pub mod Uniqueness
 pub mod RowMerges

@@ -144,11 +144,6 @@ pub any_same : {X : Type 0} (test other : X → Bool) (xs : List X) → Each (λ
 any_same test other [] h = refl
 any_same test other (x ∷ xs) h = ap (λ b. b || list_any test xs) h.0 ∙ ap (λ b. other x || b) (any_same test other xs h.1)
 
-pub same_bools : (a b : Bool) → (a ≡ true → b ≡ true) → (b ≡ true → a ≡ true) → a ≡ b
-same_bools true b f g = sym (f refl)
-same_bools false true f g = g refl
-same_bools false false f g = refl
-
 -- ---- lists that are mapped
 
 pub each_map : {X Y : Type 0} (P : X → Type 0) (Q : Y → Type 0) (f : X → Y) → ((x : X) → P x → Q (f x)) → (xs : List X) → Each P xs → Each Q (map f xs)

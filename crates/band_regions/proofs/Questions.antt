@@ -9,19 +9,13 @@ use Rattle.qws_base.specs.Regions.{right, bottom, HasPixels, IsCanonical}
 use Rattle.qws_base.specs.declared.points.Point.{Point}
 use Rattle.qws_base.specs.declared.points.Rect.{Rect}
 use Rattle.band_regions.specs.Ranges.{IsInRange}
-use Rattle.band_regions.proofs.Spanning.{spans_from}
-
-from_le : (a b : ℤ) → a ≤ℤ b → int_le a b ≡ true
-from_le a b l = grind (arith, ints)
-
-to_le : (a b : ℤ) → int_le a b ≡ true → a ≤ℤ b
-to_le a b e = grind (arith, ints)
+use Rattle.qws_base.proofs.Integers.{le_test, le_told, spans_from}
 
 abbrev pub is_side : ℤ → ℤ → Bool
 is_side first end = int_le (negsuc 32767) first && (int_le first (pos 32767) && int_le end (pos 32768))
 
 pub side_tests : (first end : ℤ) → negsuc 32767 ≤ℤ first → first ≤ℤ pos 32767 → int_le end (pos 32768) ≡ is_side first end
-side_tests first end l m = sym (ap (λ b. b && (int_le first (pos 32767) && int_le end (pos 32768))) (from_le (negsuc 32767) first l) ∙ ap (λ b. b && int_le end (pos 32768)) (from_le first (pos 32767) m))
+side_tests first end l m = sym (ap (λ b. b && (int_le first (pos 32767) && int_le end (pos 32768))) (le_test (negsuc 32767) first l) ∙ ap (λ b. b && int_le end (pos 32768)) (le_test first (pos 32767) m))
 
 record IsSide (first end : ℤ) : Type 0 where
   pub low : negsuc 32767 ≤ℤ first
@@ -32,10 +26,10 @@ side_of : (first end : ℤ) → is_side first end ≡ true → IsSide first end
 side_of first end e =
     let outer = and_parts (int_le (negsuc 32767) first) (int_le first (pos 32767) && int_le end (pos 32768)) e in
     let inner = and_parts (int_le first (pos 32767)) (int_le end (pos 32768)) outer.1 in
-    record { low = to_le (negsuc 32767) first outer.0; high = to_le first (pos 32767) inner.0; ends = to_le end (pos 32768) inner.1 }
+    record { low = le_told (negsuc 32767) first outer.0; high = le_told first (pos 32767) inner.0; ends = le_told end (pos 32768) inner.1 }
 
 side_from : (first end : ℤ) → negsuc 32767 ≤ℤ first → first ≤ℤ pos 32767 → end ≤ℤ pos 32768 → is_side first end ≡ true
-side_from first end l m h = and_from (int_le (negsuc 32767) first) (int_le first (pos 32767) && int_le end (pos 32768)) (from_le (negsuc 32767) first l) (and_from (int_le first (pos 32767)) (int_le end (pos 32768)) (from_le first (pos 32767) m) (from_le end (pos 32768) h))
+side_from first end l m h = and_from (int_le (negsuc 32767) first) (int_le first (pos 32767) && int_le end (pos 32768)) (le_test (negsuc 32767) first l) (and_from (int_le first (pos 32767)) (int_le end (pos 32768)) (le_test first (pos 32767) m) (le_test end (pos 32768) h))
 
 pub in_range_of : (r : Rect) → is_side r.x (right r) ≡ true → is_side r.y (bottom r) ≡ true → IsInRange r
 in_range_of r e f =

@@ -1,63 +1,24 @@
 -- Single rectangles, moved lists, and the search for a point.
-use Rattle.std.proofs.Common.{◌≡◌, ℕ, ◌+◌, ◌<◌, ◌≤◌, Bool, true, false, cond, ◌||◌, ◌&&◌, ◌⊎◌, List, [], ◌∷◌, length, get_or, map, take, drop, refl, sym, ap, ◌∙◌, subst, inl, inr, arith}
+use Rattle.std.proofs.Common.{◌≡◌, ℕ, ◌+◌, ◌<◌, ◌≤◌, Bool, true, false, ◌||◌, ◌&&◌, ◌⊎◌, List, [], ◌∷◌, length, get_or, map, take, drop, refl, sym, ap, ◌∙◌, subst, inl, inr, arith}
 use Rattle.std.specs.Prelude.{ℤ, pos, ◌+ℤ◌, ◌-ℤ◌, ◌<ℤ◌, ◌≤ℤ◌, int_le}
 use Rattle.std.specs.List.{All, AllWithin, AllByRecursion as Each, filter}
 use Rattle.std.specs.List.Sorted.{IsPartitionPoint, IsPartitionedBy}
 use Rattle.std.specs.Ordering.{int_eq}
 use Rattle.std.proofs.lemmas.Int.{ints, by_lt_z}
-use Rattle.std.proofs.lemmas.Bool.{false≢true, and_parts, or_cases, and_from, or_left, or_right, cases_lt}
+use Rattle.std.proofs.lemmas.Bool.{false≢true, and_parts, or_cases, and_from, or_left, or_right, cases_lt, false_from_ne_true}
 use Rattle.std.proofs.lemmas.List.{take-append-drop, drop_more, get_or-take, length-take-le, take_all}
-use Rattle.std.proofs.lemmas.List.Elements.{All-from_recursion, recursion_from_All, All-nil, All-drop}
+use Rattle.std.proofs.lemmas.List.Elements.{All-from_recursion, recursion_from_All, All-drop}
 use Rattle.std.proofs.lemmas.List.Folds.{list_any-append}
 use Rattle.qws_base.specs.Points.{spans, holds, any_holds, shifted, minus}
 use Rattle.qws_base.specs.Regions.{right, bottom, HasPixels, Precedes, span_of, starts_at, ends_at, IsRegionOf}
 use Rattle.qws_base.specs.declared.points.Point.{Point}
 use Rattle.qws_base.specs.declared.points.Rect.{Rect}
-use Rattle.band_regions.specs.Ranges.{IsInRange, IsKept, is_before}
-use Rattle.band_regions.proofs.ListLemmas.{Pairs, pairs_of, all_pairs_of, pairs_right, any_none, each_weaker, each_both, same_bools, each_map, pairs_map, filter-map, any_map, nil_of_map}
-use Rattle.band_regions.proofs.Bools.{or_false, and_false}
-use Rattle.band_regions.proofs.Spanning.{low_of, high_of, spans_from}
+use Rattle.band_regions.specs.Ranges.{IsInRange, IsInForm, is_before}
+use Rattle.band_regions.proofs.ListLemmas.{Pairs, pairs_of, all_pairs_of, pairs_right, any_none, each_weaker, each_both, each_map, pairs_map, filter-map, any_map}
+use Rattle.qws_base.proofs.Booleans.{same_test, or_false}
+use Rattle.qws_base.proofs.Integers.{le_test, le_told, spans_low, spans_high, spans_from}
 
 -- ---- one rectangle, or none
-
-pub kept_none : IsKept []
-kept_none = record {
-  canonical = record { some_pixels = All-nil HasPixels; sorted = λ i j d l m. absurd (omega arith); unmerged = λ y e. refl };
-  in_range = All-nil IsInRange;
-}
-
-no_span : (low at : ℤ) (n : ℕ) → n ≡ 0 → spans low n at ≡ false
-no_span low at n e = grind (arith, ints)
-
-pub holds_none : (r : Rect) (p : Point) → (r.w ≡ 0) ⊎ (r.h ≡ 0) → holds r p ≡ false
-holds_none r p (inl e) = ap (λ b. b && spans r.y r.h p.y) (no_span r.x p.x r.w e)
-holds_none r p (inr e) = ap (λ b. spans r.x r.w p.x && b) (no_span r.y p.y r.h e) ∙ and_false (spans r.x r.w p.x)
-
-apart_ends : (r : Rect) (y : ℤ) → HasPixels r → starts_at y r ≡ true → ends_at y r ≡ false
-apart_ends r y p e = let h = p.1 in grind (arith, ints)
-
-unmerged_one : (r : Rect) (y : ℤ) → HasPixels r → map span_of (filter (ends_at y) (r ∷ [])) ≡ map span_of (filter (starts_at y) (r ∷ [])) → filter (starts_at y) (r ∷ []) ≡ []
-unmerged_one r y p = by_test (starts_at y r) refl
-  where
-    by_test : (b : Bool) → starts_at y r ≡ b → map span_of (filter (ends_at y) (r ∷ [])) ≡ map span_of (filter (starts_at y) (r ∷ [])) → filter (starts_at y) (r ∷ []) ≡ []
-    by_test false e same = ap (λ b. cond b (r ∷ []) []) e
-    by_test true e same = nil_of_map span_of (filter (starts_at y) (r ∷ [])) (sym same ∙ ap (λ b. map span_of (cond b (r ∷ []) [])) (apart_ends r y p e))
-
-pub kept_one : (r : Rect) → HasPixels r → IsInRange r → IsKept (r ∷ [])
-kept_one r p h = record {
-  canonical = record {
-    some_pixels = All-from_recursion HasPixels (r ∷ []) (p, tt);
-    sorted = all_pairs_of Precedes (r ∷ []) (tt, tt);
-    unmerged = λ y e. unmerged_one r y p e;
-  };
-  in_range = All-from_recursion IsInRange (r ∷ []) (h, tt);
-}
-
-pub region_none : (r : Rect) → (r.w ≡ 0) ⊎ (r.h ≡ 0) → IsRegionOf [] (holds r)
-region_none r e = record { canonical = kept_none.canonical; points = λ p. sym (holds_none r p e) }
-
-pub region_one : (r : Rect) → HasPixels r → IsInRange r → IsRegionOf (r ∷ []) (holds r)
-region_one r p h = record { canonical = (kept_one r p h).canonical; points = λ q. or_false (holds r q) }
 
 -- ---- a list that is moved
 
@@ -72,16 +33,16 @@ spans_back : (d : Point) (xs : List Rect) → map (λ (t : ℤ × ℕ). (t.0 -�
 spans_back d [] = refl
 spans_back d (x ∷ xs) = ap (λ a. (a, x.w) ∷ map (λ (t : ℤ × ℕ). (t.0 -ℤ d.x, t.1)) (map span_of (map (shifted d) xs))) (moved_back d.x x.x) ∙ ap (λ ys. span_of x ∷ ys) (spans_back d xs)
 
-same_test : (a y b : ℤ) → int_eq (a +ℤ b) y ≡ int_eq b (y -ℤ a)
-same_test a y b = grind (arith, ints)
+moved_test : (a y b : ℤ) → int_eq (a +ℤ b) y ≡ int_eq b (y -ℤ a)
+moved_test a y b = grind (arith, ints)
 
 moved_starts : (d : Point) (y : ℤ) (r : Rect) → starts_at y (shifted d r) ≡ starts_at (y -ℤ d.y) r
-moved_starts d y r = same_test d.y y r.y
+moved_starts d y r = moved_test d.y y r.y
 
 moved_ends : (d : Point) (y : ℤ) (r : Rect) → ends_at y (shifted d r) ≡ ends_at (y -ℤ d.y) r
-moved_ends d y r = let e : ((d.y +ℤ r.y) +ℤ pos r.h) ≡ (d.y +ℤ (r.y +ℤ pos r.h)) = omega (arith, ints) in ap (λ z. int_eq z y) e ∙ same_test d.y y (bottom r)
+moved_ends d y r = let e : ((d.y +ℤ r.y) +ℤ pos r.h) ≡ (d.y +ℤ (r.y +ℤ pos r.h)) = omega (arith, ints) in ap (λ z. int_eq z y) e ∙ moved_test d.y y (bottom r)
 
-pub kept_moved : (d : Point) (xs : List Rect) → IsKept xs → All (λ r. IsInRange (shifted d r)) xs → IsKept (map (shifted d) xs)
+pub kept_moved : (d : Point) (xs : List Rect) → IsInForm xs → All (λ r. IsInRange (shifted d r)) xs → IsInForm (map (shifted d) xs)
 kept_moved d xs h k = record {
   canonical = record {
     some_pixels = All-from_recursion HasPixels (map (shifted d) xs) (each_map HasPixels HasPixels (shifted d) (λ r p. p) xs (recursion_from_All HasPixels xs h.canonical.some_pixels));
@@ -108,29 +69,20 @@ points_moved d xs p = any_map (λ r. holds r p) (λ r. holds r (minus p d)) (shi
 before_is : (r : Rect) (p : Point) → is_before r p ≡ true → holds r p ≡ true → ⊥
 before_is r p e h =
     let parts = and_parts (spans r.x r.w p.x) (spans r.y r.h p.y) h in
-    let x_high = high_of r.x p.x r.w parts.0 in
-    let y_high = high_of r.y p.y r.h parts.1 in
+    let x_high = spans_high r.x p.x r.w parts.0 in
+    let y_high = spans_high r.y p.y r.h parts.1 in
     by_case (or_cases (int_le (bottom r) p.y) (int_le r.y p.y && int_le (right r) p.x) e) x_high y_high
   where
-    le_of : (a b : ℤ) → int_le a b ≡ true → a ≤ℤ b
-    le_of a b e = grind (arith, ints)
-
     by_case : (int_le (bottom r) p.y ≡ true) ⊎ ((int_le r.y p.y && int_le (right r) p.x) ≡ true) → p.x <ℤ right r → p.y <ℤ bottom r → ⊥
-    by_case (inl f) a b = let l = le_of (bottom r) p.y f in omega (arith, ints)
-    by_case (inr f) a b = let l = le_of (right r) p.x (and_parts (int_le r.y p.y) (int_le (right r) p.x) f).1 in omega (arith, ints)
-
-to_le : (a b : ℤ) → int_le a b ≡ true → a ≤ℤ b
-to_le a b e = grind (arith, ints)
-
-from_le : (a b : ℤ) → a ≤ℤ b → int_le a b ≡ true
-from_le a b l = grind (arith, ints)
+    by_case (inl f) a b = let l = le_told (bottom r) p.y f in omega (arith, ints)
+    by_case (inr f) a b = let l = le_told (right r) p.x (and_parts (int_le r.y p.y) (int_le (right r) p.x) f).1 in omega (arith, ints)
 
 -- a rectangle that precedes one whose rows and columns come to the point, or past which the point is, is before it
 row_before : (r : Rect) (p : Point) → bottom r ≤ℤ p.y → is_before r p ≡ true
-row_before r p l = or_left (int_le (bottom r) p.y) (int_le r.y p.y && int_le (right r) p.x) (from_le (bottom r) p.y l)
+row_before r p l = or_left (int_le (bottom r) p.y) (int_le r.y p.y && int_le (right r) p.x) (le_test (bottom r) p.y l)
 
 column_before : (r : Rect) (p : Point) → r.y ≤ℤ p.y → right r ≤ℤ p.x → is_before r p ≡ true
-column_before r p l m = or_right (int_le (bottom r) p.y) (int_le r.y p.y && int_le (right r) p.x) (and_from (int_le r.y p.y) (int_le (right r) p.x) (from_le r.y p.y l) (from_le (right r) p.x m))
+column_before r p l m = or_right (int_le (bottom r) p.y) (int_le r.y p.y && int_le (right r) p.x) (and_from (int_le r.y p.y) (int_le (right r) p.x) (le_test r.y p.y l) (le_test (right r) p.x m))
 
 -- what precedes a rectangle that starts at or before the point's row and column is before the point
 precedes_before : (r s : Rect) (p : Point) → HasPixels s → s.y ≤ℤ p.y → s.x ≤ℤ p.x → Precedes r s → is_before r p ≡ true
@@ -141,16 +93,16 @@ before_falls : (r s : Rect) (p : Point) → HasPixels s → Precedes r s → is_
 before_falls r s p h k e = by_case (or_cases (int_le (bottom s) p.y) (int_le s.y p.y && int_le (right s) p.x) e) k
   where
     by_case : (int_le (bottom s) p.y ≡ true) ⊎ ((int_le s.y p.y && int_le (right s) p.x) ≡ true) → Precedes r s → is_before r p ≡ true
-    by_case (inl f) (inl same) = let l = to_le (bottom s) p.y f in let a = same.0 in let b = same.1 in row_before r p (omega (arith, ints))
-    by_case (inl f) (inr below) = let l = to_le (bottom s) p.y f in row_before r p (omega (arith, ints))
+    by_case (inl f) (inl same) = let l = le_told (bottom s) p.y f in let a = same.0 in let b = same.1 in row_before r p (omega (arith, ints))
+    by_case (inl f) (inr below) = let l = le_told (bottom s) p.y f in row_before r p (omega (arith, ints))
     by_case (inr f) (inl same) =
         let parts = and_parts (int_le s.y p.y) (int_le (right s) p.x) f in
-        let l = to_le s.y p.y parts.0 in let m = to_le (right s) p.x parts.1 in let a = same.0 in let g = same.2 in
+        let l = le_told s.y p.y parts.0 in let m = le_told (right s) p.x parts.1 in let a = same.0 in let g = same.2 in
         column_before r p (omega (arith, ints)) (omega (arith, ints))
-    by_case (inr f) (inr below) = let l = to_le s.y p.y (and_parts (int_le s.y p.y) (int_le (right s) p.x) f).0 in row_before r p (omega (arith, ints))
+    by_case (inr f) (inr below) = let l = le_told s.y p.y (and_parts (int_le s.y p.y) (int_le (right s) p.x) f).0 in row_before r p (omega (arith, ints))
 
 -- those before the point come first
-pub before_parted : (rects : List Rect) (p : Point) → IsKept rects → IsPartitionedBy (λ r. is_before r p) rects
+pub before_parted : (rects : List Rect) (p : Point) → IsInForm rects → IsPartitionedBy (λ r. is_before r p) rects
 before_parted rects p h i j d l m e = by_place (cases_lt i j)
   where
     by_place : (i < j) ⊎ (j ≤ i) → is_before (get_or rects i d) p ≡ true
@@ -159,18 +111,14 @@ before_parted rects p h i j d l m e = by_place (cases_lt i j)
 
 front_none : (rects : List Rect) (k : ℕ) (p : Point) → k ≤ length rects → AllWithin (λ r. is_before r p ≡ true) rects 0 k → any_holds (take k rects) p ≡ false
 front_none rects k p l h =
-    any_none (λ r. holds r p) (take k rects) (each_weaker (λ r. is_before r p ≡ true) (λ r. holds r p ≡ false) (λ r e. not_true (holds r p) (before_is r p e)) (take k rects)
+    any_none (λ r. holds r p) (take k rects) (each_weaker (λ r. is_before r p ≡ true) (λ r. holds r p ≡ false) (λ r e. false_from_ne_true (holds r p) (before_is r p e)) (take k rects)
     (recursion_from_All (λ r. is_before r p ≡ true) (take k rects) (λ i d m. let n : i < k = omega (arith, length-take-le k rects l) in ap (λ r. is_before r p) (get_or-take k rects i d n) ∙ h i d (omega arith) n)))
-  where
-    not_true : (b : Bool) → (b ≡ true → ⊥) → b ≡ false
-    not_true true f = absurd (f refl)
-    not_true false f = refl
 
 pub none_found : (rects : List Rect) (p : Point) (k : ℕ) → IsPartitionPoint (λ r. is_before r p ≡ true) (λ r. is_before r p ≡ false) rects k → k ≡ length rects → any_holds rects p ≡ false
 none_found rects p k h e = ap (λ xs. any_holds xs p) (sym (take_all k rects (omega arith))) ∙ front_none rects k p (omega arith) h.0
 
 -- the first rectangle that isn't before the point holds it, if any does
-pub one_found : (rects : List Rect) (p : Point) (k : ℕ) (r : Rect) → IsKept rects → IsPartitionPoint (λ r. is_before r p ≡ true) (λ r. is_before r p ≡ false) rects k → k < length rects → r ≡ get_or rects k r → any_holds rects p ≡ (int_le r.x p.x && int_le r.y p.y)
+pub one_found : (rects : List Rect) (p : Point) (k : ℕ) (r : Rect) → IsInForm rects → IsPartitionPoint (λ r. is_before r p ≡ true) (λ r. is_before r p ≡ false) rects k → k < length rects → r ≡ get_or rects k r → any_holds rects p ≡ (int_le r.x p.x && int_le r.y p.y)
 one_found rects p k r kept h l it =
     ap (λ xs. any_holds xs p) (sym (take-append-drop k rects))
     ∙ list_any-append (λ s. holds s p) (take k rects) (drop k rects)
@@ -178,7 +126,7 @@ one_found rects p k r kept h l it =
     ∙ ap (λ xs. any_holds xs p) (drop_more rects k r l ∙ ap (λ s. s ∷ drop (k + 1) rects) (sym it))
     ∙ ap (λ b. holds r p || b) (any_none (λ s. holds s p) (drop (k + 1) rects) none_after)
     ∙ or_false (holds r p)
-    ∙ same_bools (holds r p) (int_le r.x p.x && int_le r.y p.y) starts_there holds_it
+    ∙ same_test (holds r p) (int_le r.x p.x && int_le r.y p.y) starts_there holds_it
   where
     not_before : is_before r p ≡ false
     not_before = ap (λ s. is_before s p) it ∙ h.1 k r (omega arith) l
@@ -193,7 +141,7 @@ one_found rects p k r kept h l it =
     not_it s pixels before false e = refl
     not_it s pixels before true e =
         let parts = and_parts (spans s.x s.w p.x) (spans s.y s.h p.y) e in
-        absurd (false≢true (sym not_before ∙ precedes_before r s p pixels (low_of s.y p.y s.h parts.1) (low_of s.x p.x s.w parts.0) before))
+        absurd (false≢true (sym not_before ∙ precedes_before r s p pixels (spans_low s.y p.y s.h parts.1) (spans_low s.x p.x s.w parts.0) before))
 
     none_after : Each (λ s. holds s p ≡ false) (drop (k + 1) rects)
     none_after = each_both HasPixels (Precedes r) (λ s. holds s p ≡ false) (λ s a b. not_it s a b (holds s p) refl) (drop (k + 1) rects) rest_pixels rest_sorted.0
@@ -201,7 +149,7 @@ one_found rects p k r kept h l it =
     starts_there : holds r p ≡ true → (int_le r.x p.x && int_le r.y p.y) ≡ true
     starts_there e =
         let parts = and_parts (spans r.x r.w p.x) (spans r.y r.h p.y) e in
-        and_from (int_le r.x p.x) (int_le r.y p.y) (from_le r.x p.x (low_of r.x p.x r.w parts.0)) (from_le r.y p.y (low_of r.y p.y r.h parts.1))
+        and_from (int_le r.x p.x) (int_le r.y p.y) (le_test r.x p.x (spans_low r.x p.x r.w parts.0)) (le_test r.y p.y (spans_low r.y p.y r.h parts.1))
 
     past_it : (a b : ℤ) → (a ≤ℤ b → is_before r p ≡ true) → b <ℤ a
     past_it a b f = by_lt_z b a (λ m. m) (λ m. absurd (false≢true (sym not_before ∙ f m)))
@@ -209,22 +157,17 @@ one_found rects p k r kept h l it =
     holds_it : (int_le r.x p.x && int_le r.y p.y) ≡ true → holds r p ≡ true
     holds_it e =
         let parts = and_parts (int_le r.x p.x) (int_le r.y p.y) e in
-        let x = to_le r.x p.x parts.0 in
-        let y = to_le r.y p.y parts.1 in
+        let x = le_told r.x p.x parts.0 in
+        let y = le_told r.y p.y parts.1 in
         and_from (spans r.x r.w p.x) (spans r.y r.h p.y) (spans_from r.x p.x r.w x (past_it (right r) p.x (λ m. column_before r p y m))) (spans_from r.y p.y r.h y (past_it (bottom r) p.y (λ m. row_before r p m)))
 
 -- the moved list of a region's list
-pub moved_region : (d : Point) (xs ys now : List Rect) → ys ≡ map (shifted d) xs → xs ≡ now → IsKept xs → All (λ r. IsInRange (shifted d r)) now → IsKept ys × IsRegionOf ys (λ p. any_holds now (minus p d))
+pub moved_region : (d : Point) (xs ys now : List Rect) → ys ≡ map (shifted d) xs → xs ≡ now → IsInForm xs → All (λ r. IsInRange (shifted d r)) now → IsInForm ys × IsRegionOf ys (λ p. any_holds now (minus p d))
 moved_region d xs ys now e f h k =
-    let kept : IsKept ys = subst IsKept (sym e) (kept_moved d xs h (subst (All (λ r. IsInRange (shifted d r))) (sym f) k)) in
+    let kept : IsInForm ys = subst IsInForm (sym e) (kept_moved d xs h (subst (All (λ r. IsInRange (shifted d r))) (sym f) k)) in
     (kept, record { canonical = kept.canonical; points = λ p. ap (λ zs. any_holds zs p) e ∙ points_moved d xs p ∙ ap (λ zs. any_holds zs (minus p d)) f })
 
 -- ---- many rectangles
-
-pub region_single : (rects region : List Rect) (d : Rect) → length rects ≡ 1 → IsRegionOf region (holds (get_or rects 0 d)) → IsRegionOf region (any_holds rects)
-region_single [] region d n h = absurd (omega arith)
-region_single (r ∷ []) region d n h = record { canonical = h.canonical; points = λ p. h.points p ∙ sym (or_false (holds r p)) }
-region_single (r ∷ s ∷ rs) region d n h = absurd (omega arith)
 
 pub region_split : (n : ℕ) (rects first second region : List Rect) → IsRegionOf first (any_holds (take n rects)) → IsRegionOf second (any_holds (drop n rects)) → IsRegionOf region (λ p. any_holds first p || any_holds second p) → IsRegionOf region (any_holds rects)
 region_split n rects first second region h k j = record {

@@ -10,21 +10,18 @@ use Rattle.std.proofs.lemmas.List.Folds.{list_any-append}
 use Rattle.qws_base.specs.Points.{spans}
 use Rattle.qws_base.specs.Regions.{right}
 use Rattle.qws_base.specs.declared.points.Rect.{Rect}
-use Rattle.band_regions.specs.Rows.{IsSpan, IsRow, IsLevel, IsLeftOf, IsAdded, IsTaken, StartsFrom, EndsLeftOf, has_column, is_between, columns_of, start_of_row}
-use Rattle.band_regions.proofs.Bools.{or_false, or_assoc, and_true, and_false}
+use Rattle.band_regions.specs.Rows.{IsSpan, IsBandRow, IsLevel, IsLeftOf, IsAdded, IsTaken, StartsFrom, EndsLeftOf, has_column, is_between, columns_of, start_of_row}
+use Rattle.qws_base.proofs.Booleans.{or_false, or_assoc, and_true, and_false}
 use Rattle.band_regions.proofs.ListLemmas.{Pairs, pairs_of, all_pairs_of, pairs_append, each_append, each_weaker, each_map, pairs_map, any_map}
-use Rattle.band_regions.proofs.Spanning.{not_after}
+use Rattle.qws_base.proofs.Integers.{lt_told, spans_not_after}
 use Rattle.band_regions.proofs.SameSpans.{none_left}
 
 -- ---- rows
 
-pub no_spans : IsRow []
-no_spans = record { each = λ k d l. absurd (omega arith); gapped = λ i j d l m. absurd (omega arith) }
-
-gaps_of : (r : Rect) (rs : List Rect) → IsRow (r ∷ rs) → Each (IsLeftOf r) rs
+gaps_of : (r : Rect) (rs : List Rect) → IsBandRow (r ∷ rs) → Each (IsLeftOf r) rs
 gaps_of r rs h = let p : Pairs IsLeftOf (r ∷ rs) = pairs_of IsLeftOf (r ∷ rs) h.gapped in p.0
 
-pub rest_row : (rows : List Rect) → IsRow rows → IsRow (drop 1 rows)
+pub rest_row : (rows : List Rect) → IsBandRow rows → IsBandRow (drop 1 rows)
 rest_row [] h = h
 rest_row (r ∷ rs) h = record {
   each = All-tail IsSpan r rs h.each;
@@ -32,10 +29,10 @@ rest_row (r ∷ rs) h = record {
 }
 
 -- the spans after the first start to the right of its end
-later_start : (r : Rect) (rs : List Rect) (x : ℤ) → IsRow (r ∷ rs) → x ≤ℤ (right r +ℤ pos 1) → Each (StartsFrom x) rs
+later_start : (r : Rect) (rs : List Rect) (x : ℤ) → IsBandRow (r ∷ rs) → x ≤ℤ (right r +ℤ pos 1) → Each (StartsFrom x) rs
 later_start r rs x h l = each_weaker (IsLeftOf r) (StartsFrom x) (λ s k. omega (arith, ints)) rs (gaps_of r rs h)
 
-all_start : (r : Rect) (rs : List Rect) (x : ℤ) → IsRow (r ∷ rs) → x ≤ℤ r.x → Each (StartsFrom x) (r ∷ rs)
+all_start : (r : Rect) (rs : List Rect) (x : ℤ) → IsBandRow (r ∷ rs) → x ≤ℤ r.x → Each (StartsFrom x) (r ∷ rs)
 all_start r rs x h l = (l, later_start r rs x h (omega (arith, ints)))
 
 -- where a row starts is in range, and all of it is from there on
@@ -44,7 +41,7 @@ pub record IsStart (x : ℤ) (row : List Rect) : Type 0 where
   pub high : x ≤ℤ pos 32768
   pub all : Each (StartsFrom x) row
 
-pub starts : (row : List Rect) → IsRow row → IsStart (start_of_row row) row
+pub starts : (row : List Rect) → IsBandRow row → IsStart (start_of_row row) row
 starts [] h = record { low = omega (arith, ints); high = omega (arith, ints); all = tt }
 starts (r ∷ rs) h =
     let s : IsSpan r = All-head IsSpan r rs h.each in let low = s.low in let high = s.high in
@@ -84,9 +81,6 @@ added x top height old rects set h columns = record {
 width_is : (from to : ℤ) → int_lt from to ≡ true → (from +ℤ pos (nat_abs (to -ℤ from))) ≡ to
 width_is from to e = grind (arith, ints)
 
-less_of : (a b : ℤ) → int_lt a b ≡ true → a <ℤ b
-less_of a b e = grind (arith, ints)
-
 between_none : (from to c : ℤ) → int_lt from to ≡ false → is_between from to c ≡ false
 between_none from to c e = grind (arith, ints)
 
@@ -111,7 +105,7 @@ piece_of x end from to top height l m low high = by_test (int_lt from to) refl
     by_test : (b : Bool) → int_lt from to ≡ b → IsPiece x end top height (cond b (record { x = from; y = top; w = nat_abs (to -ℤ from); h = height } ∷ []) [])
     by_test true e =
         let w : (from +ℤ pos (nat_abs (to -ℤ from))) ≡ to = width_is from to e in
-        let some : from <ℤ to = less_of from to e in
+        let some : from <ℤ to = lt_told from to e in
         record {
           each = (record { wide = omega (arith, ints); low = low; high = omega (arith, ints) }, tt);
           gaps = (tt, tt);
@@ -144,12 +138,12 @@ more x end from to top height old rects now h e l n m low high =
 
 -- ---- the span that comes first of two rows
 
-pub some_first : (first second : List Rect) → IsRow first → IsRow second → start_of_row first ≤ℤ start_of_row second → (length first + length second ≡ 0 → ⊥) → 0 < length first
+pub some_first : (first second : List Rect) → IsBandRow first → IsBandRow second → start_of_row first ≤ℤ start_of_row second → (length first + length second ≡ 0 → ⊥) → 0 < length first
 some_first [] [] h k l some = absurd (some refl)
 some_first [] (s ∷ ss) h k l some = let it : IsSpan s = All-head IsSpan s ss k.each in let wide = it.wide in let high = it.high in absurd (omega (arith, ints))
 some_first (r ∷ rs) second h k l some = omega arith
 
-pub taken_first : (first second : List Rect) (d span : Rect) → 0 < length first → IsRow first → IsRow second → span ≡ get_or first 0 d → start_of_row first ≤ℤ start_of_row second → IsTaken span first second (drop 1 first) second
+pub taken_first : (first second : List Rect) (d span : Rect) → 0 < length first → IsBandRow first → IsBandRow second → span ≡ get_or first 0 d → start_of_row first ≤ℤ start_of_row second → IsTaken span first second (drop 1 first) second
 taken_first [] second d span l h k e m = absurd (omega arith)
 taken_first (r ∷ rs) second d span l h k e m = subst (λ s. IsTaken s (r ∷ rs) second rs second) (sym e) (record {
   is_span = All-head IsSpan r rs h.each;
@@ -162,7 +156,7 @@ taken_first (r ∷ rs) second d span l h k e m = subst (λ s. IsTaken s (r ∷ r
   fewer = omega arith;
 })
 
-pub taken_second : (first second : List Rect) (d span : Rect) → 0 < length second → IsRow first → IsRow second → span ≡ get_or second 0 d → start_of_row second ≤ℤ start_of_row first → IsTaken span first second first (drop 1 second)
+pub taken_second : (first second : List Rect) (d span : Rect) → 0 < length second → IsBandRow first → IsBandRow second → span ≡ get_or second 0 d → start_of_row second ≤ℤ start_of_row first → IsTaken span first second first (drop 1 second)
 taken_second first second d span l h k e m =
     let t : IsTaken span second first (drop 1 second) first = taken_first second first d span l k h e m in
     record {
@@ -192,13 +186,13 @@ pub record IsUniting (top : ℤ) (height : ℕ) (old : List Rect) (set : ℤ →
   pub ordered : from ≤ℤ to
   pub low : negsuc 32767 ≤ℤ from
   pub high : to ≤ℤ pos 32768
-  pub first_row : IsRow first
-  pub second_row : IsRow second
+  pub first_row : IsBandRow first
+  pub second_row : IsBandRow second
   pub first_ahead : All (StartsFrom from) first
   pub second_ahead : All (StartsFrom from) second
   pub columns : (c : ℤ) → (has_column so_far.band c || (is_between from to c || (has_column first c || has_column second c))) ≡ set c
 
-pub uniting_none : (top : ℤ) (height : ℕ) (old first second : List Rect) (from : ℤ) → IsRow first → IsRow second → from ≡ int_min (start_of_row first) (start_of_row second) → IsUniting top height old (λ c. has_column first c || has_column second c) from from first second old
+pub uniting_none : (top : ℤ) (height : ℕ) (old first second : List Rect) (from : ℤ) → IsBandRow first → IsBandRow second → from ≡ int_min (start_of_row first) (start_of_row second) → IsUniting top height old (λ c. has_column first c || has_column second c) from from first second old
 unfolding none_so_far
 uniting_none top height old first second from h k e =
     let a : IsStart (start_of_row first) first = starts first h in
@@ -224,7 +218,7 @@ pub record IsPlace (x : ℤ) : Type 0 where
   pub low : negsuc 32767 ≤ℤ x
   pub high : x ≤ℤ pos 32768
 
-pub start_place : (row : List Rect) (x : ℤ) → IsRow row → x ≡ start_of_row row → IsPlace x
+pub start_place : (row : List Rect) (x : ℤ) → IsBandRow row → x ≡ start_of_row row → IsPlace x
 start_place row x h e = let s : IsStart (start_of_row row) row = starts row h in let low = s.low in let high = s.high in record { low = omega (arith, ints); high = omega (arith, ints) }
 
 -- a span that touches what is open
@@ -286,10 +280,10 @@ pub record IsCutting (top : ℤ) (height : ℕ) (old : List Rect) (set : ℤ →
   pub x : ℤ
   pub so_far : IsRowSoFar x top height old rects
   pub gap : (x ≤ℤ p) ⊎ Each (StartsFrom x) first
-  pub row : IsRow first
+  pub row : IsBandRow first
   pub columns : (c : ℤ) → (has_column so_far.band c || (has_column first c && kept c)) ≡ set c
 
-pub cutting_none : (top : ℤ) (height : ℕ) (old : List Rect) (set : ℤ → Bool) (p : ℤ) (kept : ℤ → Bool) (first : List Rect) → IsRow first → ((c : ℤ) → (has_column first c && kept c) ≡ set c) → IsCutting top height old set p kept first old
+pub cutting_none : (top : ℤ) (height : ℕ) (old : List Rect) (set : ℤ → Bool) (p : ℤ) (kept : ℤ → Bool) (first : List Rect) → IsBandRow first → ((c : ℤ) → (has_column first c && kept c) ≡ set c) → IsCutting top height old set p kept first old
 unfolding none_so_far
 cutting_none top height old set p kept first h columns = record { x = p; so_far = none_so_far p top height old; gap = inl (omega (arith, ints)); row = h; columns = columns }
 
@@ -338,7 +332,7 @@ cut_first top height old set p q from end kept r rs rects now h front l e f appe
     key : (c : ℤ) → is_between from end c ≡ (spans r.x r.w c && kept c)
     key c = by_lt_z c q
         (λ m. ap (λ x. is_between x end c) e ∙ cut_is r.x p end q c r.w (kept c) (front c) f m)
-        (λ m. between_past from end c (omega (arith, ints, clamps)) ∙ sym (ap (λ b. b && kept c) (not_after r.x c r.w (omega (arith, ints)))))
+        (λ m. between_past from end c (omega (arith, ints, clamps)) ∙ sym (ap (λ b. b && kept c) (spans_not_after r.x c r.w (omega (arith, ints)))))
 
     finish : (x : ℤ) → h.x ≤ℤ x → end <ℤ x → (x ≤ℤ p) ⊎ Each (StartsFrom x) rs → IsCutting top height old set p kept rs now
     finish x m n gap =
@@ -398,7 +392,7 @@ cut_all top height old set p kept first rects h none = added h.x top height old 
 span_front : (x c : ℤ) (w : ℕ) → c <ℤ (x +ℤ pos w) → spans x w c ≡ int_le x c
 span_front x c w l = grind (arith, ints)
 
-row_front : (t : Rect) (ts : List Rect) (c : ℤ) → IsRow (t ∷ ts) → c <ℤ right t → has_column (t ∷ ts) c ≡ int_le t.x c
+row_front : (t : Rect) (ts : List Rect) (c : ℤ) → IsBandRow (t ∷ ts) → c <ℤ right t → has_column (t ∷ ts) c ≡ int_le t.x c
 row_front t ts c h l =
     ap (λ b. spans t.x t.w c || b) (none_before c (right t +ℤ pos 1) ts (omega (arith, ints)) (later_start t ts (right t +ℤ pos 1) h (omega (arith, ints))))
     ∙ or_false (spans t.x t.w c) ∙ span_front t.x c t.w l
@@ -409,9 +403,9 @@ meet_start (t ∷ ts) = t.x
 
 pub record IsMeeting (top : ℤ) (height : ℕ) (old : List Rect) (set : ℤ → Bool) (first second rects : List Rect) : Type 0 where
   pub cut : IsCutting top height old set (meet_start second) (has_column second) first rects
-  pub row : IsRow second
+  pub row : IsBandRow second
 
-pub meeting_none : (top : ℤ) (height : ℕ) (old first second : List Rect) → IsRow first → IsRow second → IsMeeting top height old (λ c. has_column first c && has_column second c) first second old
+pub meeting_none : (top : ℤ) (height : ℕ) (old first second : List Rect) → IsBandRow first → IsBandRow second → IsMeeting top height old (λ c. has_column first c && has_column second c) first second old
 meeting_none top height old first second h k = record { cut = cutting_none top height old (λ c. has_column first c && has_column second c) (meet_start second) (has_column second) first h (λ c. refl); row = k }
 
 pub meet_first : (top : ℤ) (height : ℕ) (old : List Rect) (set : ℤ → Bool) (first second rects now : List Rect) (d : Rect) (from end : ℤ)
@@ -434,11 +428,11 @@ meet_second top height old set (r ∷ rs) [] rects now d from end h m n l e f a 
 meet_second top height old set (r ∷ rs) (t ∷ ts) rects now d from end h m n l e f a = record {
   cut = cut_second top height old set t.x (right t) (meet_start ts) from end (has_column (t ∷ ts)) (has_column ts) r rs rects now h.cut (λ c j. row_front t ts c h.row j) l (omega (arith, ints)) (next ts h.row)
       (λ c j. none_before c (right t +ℤ pos 1) ts (omega (arith, ints)) (later_start t ts (right t +ℤ pos 1) h.row (omega (arith, ints))))
-      (λ c j. sym (ap (λ b. b || has_column ts c) (not_after t.x c t.w j))) e f a;
+      (λ c j. sym (ap (λ b. b || has_column ts c) (spans_not_after t.x c t.w j))) e f a;
   row = rest_row (t ∷ ts) h.row;
 }
   where
-    next : (ss : List Rect) → IsRow (t ∷ ss) → right t <ℤ meet_start ss
+    next : (ss : List Rect) → IsBandRow (t ∷ ss) → right t <ℤ meet_start ss
     next [] k = let it : IsSpan t = All-head IsSpan t [] k.each in let high = it.high in omega (arith, ints)
     next (s ∷ ss) k = (gaps_of t (s ∷ ss) k).0
 
@@ -455,21 +449,21 @@ is_free free second c = int_le free c && not (has_column second c)
 
 pub record IsSubtracting (top : ℤ) (height : ℕ) (old : List Rect) (set : ℤ → Bool) (free : ℤ) (first second rects : List Rect) : Type 0 where
   pub cut : IsCutting top height old set free (is_free free second) first rects
-  pub row : IsRow second
+  pub row : IsBandRow second
   pub ahead : Each (StartsFrom free) second
 
-free_none : (row : List Rect) (c : ℤ) (b : Bool) → IsRow row → (has_column row c && (int_le (negsuc 32767) c && b)) ≡ (has_column row c && b)
+free_none : (row : List Rect) (c : ℤ) (b : Bool) → IsBandRow row → (has_column row c && (int_le (negsuc 32767) c && b)) ≡ (has_column row c && b)
 free_none row c b h = by_lt_z c (negsuc 32767)
     (λ l. ap (λ t. t && (int_le (negsuc 32767) c && b)) (none row c h l) ∙ sym (ap (λ t. t && b) (none row c h l)))
     (λ l. ap (λ t. has_column row c && (t && b)) (in_range c l))
   where
-    none : (row : List Rect) (c : ℤ) → IsRow row → c <ℤ negsuc 32767 → has_column row c ≡ false
+    none : (row : List Rect) (c : ℤ) → IsBandRow row → c <ℤ negsuc 32767 → has_column row c ≡ false
     none row c h l = let s : IsStart (start_of_row row) row = starts row h in let low = s.low in none_before c (start_of_row row) row (omega (arith, ints)) s.all
 
     in_range : (c : ℤ) → negsuc 32767 ≤ℤ c → int_le (negsuc 32767) c ≡ true
     in_range c l = grind (arith, ints)
 
-pub subtracting_none : (top : ℤ) (height : ℕ) (old first second : List Rect) → IsRow first → IsRow second → IsSubtracting top height old (λ c. has_column first c && not (has_column second c)) (negsuc 32767) first second old
+pub subtracting_none : (top : ℤ) (height : ℕ) (old first second : List Rect) → IsBandRow first → IsBandRow second → IsSubtracting top height old (λ c. has_column first c && not (has_column second c)) (negsuc 32767) first second old
 subtracting_none top height old first second h k =
     let s : IsStart (start_of_row second) second = starts second k in let low = s.low in
     record {
@@ -478,7 +472,7 @@ subtracting_none top height old first second h k =
       ahead = from_farther (negsuc 32767) (start_of_row second) second low s.all;
     }
 
-free_front : (free : ℤ) (second : List Rect) (c : ℤ) → IsRow second → c <ℤ start_of_row second → is_free free second c ≡ int_le free c
+free_front : (free : ℤ) (second : List Rect) (c : ℤ) → IsBandRow second → c <ℤ start_of_row second → is_free free second c ≡ int_le free c
 free_front free second c h l = ap (λ b. int_le free c && not b) (none_before c (start_of_row second) second l (starts second h).all) ∙ and_true (int_le free c)
 
 pub subtract_first : (top : ℤ) (height : ℕ) (old : List Rect) (set : ℤ → Bool) (free : ℤ) (first second rects now : List Rect) (d : Rect) (from end : ℤ)
@@ -492,14 +486,10 @@ subtract_first top height old set free (r ∷ rs) second rects now d from end h 
   ahead = h.ahead;
 }
 
-pub some_before : (row : List Rect) (x : ℤ) → start_of_row row <ℤ x → x ≤ℤ pos 32768 → 0 < length row
-some_before [] x l m = absurd (omega (arith, ints))
-some_before (t ∷ ts) x l m = omega arith
-
 free_after : (free c : ℤ) (t : Rect) (ts : List Rect) → free ≤ℤ t.x → t.x ≤ℤ c → (int_le (right t) c && not (has_column ts c)) ≡ (int_le free c && not (spans t.x t.w c || has_column ts c))
 free_after free c t ts l m = by_lt_z c (right t)
     (λ j. ap (λ b. b && not (has_column ts c)) (later (right t) c j) ∙ sym (ap (λ b. int_le free c && not (b || has_column ts c)) (here t.x c t.w m j) ∙ and_false (int_le free c)))
-    (λ j. ap (λ b. b && not (has_column ts c)) (by (right t) c j) ∙ sym (ap (λ b. b && not (spans t.x t.w c || has_column ts c)) (by free c (omega (arith, ints))) ∙ ap (λ b. not (b || has_column ts c)) (not_after t.x c t.w j)))
+    (λ j. ap (λ b. b && not (has_column ts c)) (by (right t) c j) ∙ sym (ap (λ b. b && not (spans t.x t.w c || has_column ts c)) (by free c (omega (arith, ints))) ∙ ap (λ b. not (b || has_column ts c)) (spans_not_after t.x c t.w j)))
   where
     later : (a c : ℤ) → c <ℤ a → int_le a c ≡ false
     later a c l = grind (arith, ints)
@@ -540,7 +530,7 @@ subtract_none top height old set free first second rects h e = cut_all top heigh
 abbrev pub leveled : ℤ → ℕ → Rect → Rect
 leveled top height r = record { x = r.x; y = top; w = r.w; h = height }
 
-pub copied : (top : ℤ) (height : ℕ) (old row : List Rect) → IsRow row → IsAdded top height old (old ++ map (leveled top height) row) (has_column row)
+pub copied : (top : ℤ) (height : ℕ) (old row : List Rect) → IsBandRow row → IsAdded top height old (old ++ map (leveled top height) row) (has_column row)
 copied top height old row h =
     let each : Each IsSpan row = recursion_from_All IsSpan row h.each in
     record {

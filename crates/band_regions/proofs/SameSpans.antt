@@ -9,14 +9,14 @@ use Rattle.qws_base.specs.Regions.{right, span_of}
 use Rattle.qws_base.specs.declared.points.Rect.{Rect}
 use Rattle.band_regions.specs.Rows.{has_column, IsLeftOf}
 use Rattle.band_regions.proofs.ListLemmas.{Pairs, any_none, each_weaker}
-use Rattle.band_regions.proofs.Spanning.{high_of, spans_from, not_before, not_after}
+use Rattle.qws_base.proofs.Integers.{spans_high, spans_from, spans_not_before, spans_not_after}
 
 abbrev pub IsWide : Rect → Type 0
 IsWide r = 0 < r.w
 
 -- no column left of all spans
 pub none_left : (c : ℤ) (xs : List Rect) → Each (λ s. c <ℤ s.x) xs → has_column xs c ≡ false
-none_left c xs h = any_none (λ r. spans r.x r.w c) xs (each_weaker (λ s. c <ℤ s.x) (λ s. spans s.x s.w c ≡ false) (λ s k. not_before s.x c s.w k) xs h)
+none_left c xs h = any_none (λ r. spans r.x r.w c) xs (each_weaker (λ s. c <ℤ s.x) (λ s. spans s.x s.w c ≡ false) (λ s k. spans_not_before s.x c s.w k) xs h)
 
 -- nor one of the first span or left of it among the others
 pub none_later : (r : Rect) (xs : List Rect) (c : ℤ) → Each (IsLeftOf r) xs → c ≤ℤ right r → has_column xs c ≡ false
@@ -30,10 +30,10 @@ begins r rs h = ap (λ b. b || has_column rs r.x) (starts r h)
 
 -- nothing is at the left of the first span, nor at its right end
 pub nothing_before : (r : Rect) (rs : List Rect) (c : ℤ) → Each (IsLeftOf r) rs → c <ℤ r.x → has_column (r ∷ rs) c ≡ false
-nothing_before r rs c h k = ap (λ b. b || has_column rs c) (not_before r.x c r.w k) ∙ none_later r rs c h (omega (arith, ints))
+nothing_before r rs c h k = ap (λ b. b || has_column rs c) (spans_not_before r.x c r.w k) ∙ none_later r rs c h (omega (arith, ints))
 
 nothing_after : (r : Rect) (rs : List Rect) → Each (IsLeftOf r) rs → has_column (r ∷ rs) (right r) ≡ false
-nothing_after r rs h = ap (λ b. b || has_column rs (right r)) (not_after r.x (right r) r.w (omega (arith, ints))) ∙ none_later r rs (right r) h (omega (arith, ints))
+nothing_after r rs h = ap (λ b. b || has_column rs (right r)) (spans_not_after r.x (right r) r.w (omega (arith, ints))) ∙ none_later r rs (right r) h (omega (arith, ints))
 
 not_left : (r s : Rect) (rs ss : List Rect) → IsWide r → Each (IsLeftOf s) ss → ((c : ℤ) → has_column (r ∷ rs) c ≡ has_column (s ∷ ss) c) → r.x <ℤ s.x → ⊥
 not_left r s rs ss w h same l = false≢true (sym (nothing_before s ss r.x h l) ∙ sym (same r.x) ∙ begins r rs w)
@@ -63,7 +63,7 @@ same_rest : (r s : Rect) (rs ss : List Rect) → r.x ≡ s.x → r.w ≡ s.w →
 same_rest r s rs ss e f h k same c =
     without_first (spans r.x r.w c) (spans s.x s.w c) (has_column rs c) (has_column ss c)
     (ap (λ x. spans x r.w c) e ∙ ap (λ w. spans s.x w c) f) (same c)
-    (λ at. let below = high_of r.x c r.w at in (none_later r rs c h (omega (arith, ints)), none_later s ss c k (omega (arith, ints))))
+    (λ at. let below = spans_high r.x c r.w at in (none_later r rs c h (omega (arith, ints)), none_later s ss c k (omega (arith, ints))))
 
 pub same_spans : (xs ys : List Rect) → Each IsWide xs → Pairs IsLeftOf xs → Each IsWide ys → Pairs IsLeftOf ys → ((c : ℤ) → has_column xs c ≡ has_column ys c) → map span_of xs ≡ map span_of ys
 same_spans [] [] w g v k same = refl

@@ -10,8 +10,9 @@ use Rattle.qws_base.specs.Regions.{right, bottom, span_of, starts_at, ends_at, H
 use Rattle.qws_base.specs.declared.points.Point.{Point}
 use Rattle.qws_base.specs.declared.points.Rect.{Rect}
 use Rattle.band_regions.specs.Rows.{has_column, IsLeftOf}
-use Rattle.band_regions.proofs.ListLemmas.{In, Pairs, pairs_of, pairs_in, pairs_filter, pairs_under, each_in, each_filter, each_passes, each_weaker, each_both, any_in, any_from_in, filter_in, in_filter, passes_in, same_bools, nil_of_map}
-use Rattle.band_regions.proofs.Spanning.{low_of, high_of, spans_from, is_equal, equal_is}
+use Rattle.qws_base.proofs.Booleans.{same_test}
+use Rattle.band_regions.proofs.ListLemmas.{In, Pairs, pairs_of, pairs_in, pairs_filter, pairs_under, each_in, each_filter, each_passes, each_weaker, each_both, any_in, any_from_in, filter_in, in_filter, passes_in, nil_of_map}
+use Rattle.qws_base.proofs.Integers.{spans_low, spans_high, spans_from, eq_test, eq_told}
 use Rattle.band_regions.proofs.SameSpans.{IsWide, same_spans}
 
 abbrev pub at : ℤ → ℤ → Point
@@ -36,16 +37,16 @@ same_rect r s a b c d =
 
 same_top : (set : Point → Bool) (r s : Rect) → IsPiece set r → IsPiece set s → spans s.y s.h r.y ≡ true → s.y ≡ r.y
 same_top set r s p q h =
-    let low = low_of s.y r.y s.h h in
-    let high = high_of s.y r.y s.h h in
+    let low = spans_low s.y r.y s.h h in
+    let high = spans_high s.y r.y s.h h in
     by_lt_z s.y r.y
     (λ l. absurd (p.above_differs (λ x. q.alike x (r.y -ℤ pos 1) r.y (spans_from s.y (r.y -ℤ pos 1) s.h (omega (arith, ints)) (omega (arith, ints))) h)))
     (λ l. omega (arith, ints))
 
 same_left : (set : Point → Bool) (r s : Rect) → IsPiece set r → IsPiece set s → spans s.y s.h r.y ≡ true → spans s.x s.w r.x ≡ true → s.x ≡ r.x
 same_left set r s p q h k =
-    let low = low_of s.x r.x s.w k in
-    let high = high_of s.x r.x s.w k in
+    let low = spans_low s.x r.x s.w k in
+    let high = spans_high s.x r.x s.w k in
     by_lt_z s.x r.x
     (λ l. absurd (false≢true (sym (p.left_out r.y (spans_from r.y r.y r.h (omega (arith, ints)) (omega (arith, ints, p.pixels.1))))
     ∙ q.inside (r.x -ℤ pos 1) r.y (spans_from s.x (r.x -ℤ pos 1) s.w (omega (arith, ints)) (omega (arith, ints))) h)))
@@ -93,7 +94,7 @@ record IsMate (r s : Rect) : Type 0 where
 precedes_mate : (r s : Rect) (y : ℤ) → spans r.y r.h y ≡ true → spans s.y s.h y ≡ true → Precedes r s → (r.y ≡ s.y) × (r.h ≡ s.h) × (right r <ℤ s.x)
 precedes_mate r s y h k (inl same) = same
 precedes_mate r s y h k (inr above) =
-    let a = high_of r.y y r.h h in let b = low_of s.y y s.h k in absurd (omega (arith, ints))
+    let a = spans_high r.y y r.h h in let b = spans_low s.y y s.h k in absurd (omega (arith, ints))
 
 mate : (rects : List Rect) (r s : Rect) (y : ℤ) → IsGood rects → In r rects → In s rects → spans r.y r.h y ≡ true → spans s.y s.h y ≡ true → IsMate r s
 mate rects r s y g m n h k = by_order (pairs_in Precedes rects r s g.sorted m n)
@@ -120,7 +121,7 @@ held : (rects : List Rect) (x y : ℤ) (s : Rect) → IsHolder rects x y s → a
 held rects x y s h = any_from_in (λ r. holds r (at x y)) rects s h.member (and_from (spans s.x s.w x) (spans s.y s.h y) h.column h.row)
 
 not_held : (rects : List Rect) (x y : ℤ) → ((s : Rect) → IsHolder rects x y s → ⊥) → any_holds rects (at x y) ≡ false
-not_held rects x y h = same_bools (any_holds rects (at x y)) false (λ e. let s = holder rects x y e in absurd (h s.0 s.1)) (λ e. absurd (false≢true e))
+not_held rects x y h = same_test (any_holds rects (at x y)) false (λ e. let s = holder rects x y e in absurd (h s.0 s.1)) (λ e. absurd (false≢true e))
 
 pub first_row : (r : Rect) → HasPixels r → spans r.y r.h r.y ≡ true
 first_row r p = spans_from r.y r.y r.h (omega (arith, ints)) (omega (arith, ints, p.1))
@@ -135,10 +136,10 @@ left_gap rects r s y g m h k = by_place (mate rects r s y g m k.member h k.row).
     pixels = each_in HasPixels rects s g.pixels k.member
 
     low : s.x ≤ℤ (r.x -ℤ pos 1)
-    low = low_of s.x (r.x -ℤ pos 1) s.w k.column
+    low = spans_low s.x (r.x -ℤ pos 1) s.w k.column
 
     high : (r.x -ℤ pos 1) <ℤ right s
-    high = high_of s.x (r.x -ℤ pos 1) s.w k.column
+    high = spans_high s.x (r.x -ℤ pos 1) s.w k.column
 
     by_place : (s ≡ r) ⊎ ((right r <ℤ s.x) ⊎ (right s <ℤ r.x)) → ⊥
     by_place (inl e) = let f : s.x ≡ r.x = ap (λ t. t.x) e in omega (arith, ints, low)
@@ -149,10 +150,10 @@ right_gap : (rects : List Rect) (r s : Rect) (y : ℤ) → IsGood rects → In r
 right_gap rects r s y g m h k = by_place (mate rects r s y g m k.member h k.row).place
   where
     low : s.x ≤ℤ right r
-    low = low_of s.x (right r) s.w k.column
+    low = spans_low s.x (right r) s.w k.column
 
     high : right r <ℤ right s
-    high = high_of s.x (right r) s.w k.column
+    high = spans_high s.x (right r) s.w k.column
 
     by_place : (s ≡ r) ⊎ ((right r <ℤ s.x) ⊎ (right s <ℤ r.x)) → ⊥
     by_place (inl e) = let f : right s ≡ right r = ap right e in omega (arith, ints, high)
@@ -174,35 +175,35 @@ record IsCut (rects : List Rect) (y : ℤ) : Type 0 where
 
 ending_gap : (y : ℤ) (r s : Rect) → (HasPixels r × (ends_at y r ≡ true)) → (HasPixels s × (ends_at y s ≡ true)) → Precedes r s → IsLeftOf r s
 ending_gap y r s h k (inl same) = same.2
-ending_gap y r s h k (inr above) = let a = equal_is (bottom r) y h.1 in let b = equal_is (bottom s) y k.1 in absurd (omega (arith, ints, k.0.1))
+ending_gap y r s h k (inr above) = let a = eq_told (bottom r) y h.1 in let b = eq_told (bottom s) y k.1 in absurd (omega (arith, ints, k.0.1))
 
 starting_gap : (y : ℤ) (r s : Rect) → (HasPixels r × (starts_at y r ≡ true)) → (HasPixels s × (starts_at y s ≡ true)) → Precedes r s → IsLeftOf r s
 starting_gap y r s h k (inl same) = same.2
-starting_gap y r s h k (inr above) = let a = equal_is r.y y h.1 in let b = equal_is s.y y k.1 in absurd (omega (arith, ints, h.0.1))
+starting_gap y r s h k (inr above) = let a = eq_told r.y y h.1 in let b = eq_told s.y y k.1 in absurd (omega (arith, ints, h.0.1))
 
 row_above : (rects : List Rect) (y c : ℤ) → IsGood rects → IsCut rects y → has_column (filter (ends_at y) rects) c ≡ any_holds rects (at c (y -ℤ pos 1))
 row_above rects y c g cut =
-    same_bools (has_column (filter (ends_at y) rects) c) (any_holds rects (at c (y -ℤ pos 1)))
+    same_test (has_column (filter (ends_at y) rects) c) (any_holds rects (at c (y -ℤ pos 1)))
     (λ e. let found = any_in (λ r. spans r.x r.w c) (filter (ends_at y) rects) e in
     let s = found.0 in
     let member = in_filter (ends_at y) rects s found.1 in
-    let its : bottom s ≡ y = equal_is (bottom s) y (passes_in (ends_at y) rects s found.1) in
+    let its : bottom s ≡ y = eq_told (bottom s) y (passes_in (ends_at y) rects s found.1) in
     held rects c (y -ℤ pos 1) s (record { member = member; column = found.2; row = subst (λ z. spans s.y s.h (z -ℤ pos 1) ≡ true) its (last_row s (each_in HasPixels rects s g.pixels member)) }))
     (λ e. let found = holder rects c (y -ℤ pos 1) e in
     let s = found.0 in
-    any_from_in (λ r. spans r.x r.w c) (filter (ends_at y) rects) s (filter_in (ends_at y) rects s found.1.member (is_equal (bottom s) y (cut.above s found.1.member found.1.row))) found.1.column)
+    any_from_in (λ r. spans r.x r.w c) (filter (ends_at y) rects) s (filter_in (ends_at y) rects s found.1.member (eq_test (bottom s) y (cut.above s found.1.member found.1.row))) found.1.column)
 
 row_below : (rects : List Rect) (y c : ℤ) → IsGood rects → IsCut rects y → has_column (filter (starts_at y) rects) c ≡ any_holds rects (at c y)
 row_below rects y c g cut =
-    same_bools (has_column (filter (starts_at y) rects) c) (any_holds rects (at c y))
+    same_test (has_column (filter (starts_at y) rects) c) (any_holds rects (at c y))
     (λ e. let found = any_in (λ r. spans r.x r.w c) (filter (starts_at y) rects) e in
     let s = found.0 in
     let member = in_filter (starts_at y) rects s found.1 in
-    let its : s.y ≡ y = equal_is s.y y (passes_in (starts_at y) rects s found.1) in
+    let its : s.y ≡ y = eq_told s.y y (passes_in (starts_at y) rects s found.1) in
     held rects c y s (record { member = member; column = found.2; row = subst (λ z. spans s.y s.h z ≡ true) its (first_row s (each_in HasPixels rects s g.pixels member)) }))
     (λ e. let found = holder rects c y e in
     let s = found.0 in
-    any_from_in (λ r. spans r.x r.w c) (filter (starts_at y) rects) s (filter_in (starts_at y) rects s found.1.member (is_equal s.y y (cut.below s found.1.member found.1.row))) found.1.column)
+    any_from_in (λ r. spans r.x r.w c) (filter (starts_at y) rects) s (filter_in (starts_at y) rects s found.1.member (eq_test s.y y (cut.below s found.1.member found.1.row))) found.1.column)
 
 wide : (test : Rect → Bool) (rects : List Rect) → IsGood rects → Each IsWide (filter test rects)
 wide test rects g = each_weaker HasPixels IsWide (λ r p. p.0) (filter test rects) (each_filter HasPixels test rects g.pixels)
@@ -231,7 +232,7 @@ related rects r s g m n = by_order (pairs_in Precedes rects r s g.sorted m n)
 
 cut_above : (rects : List Rect) (r : Rect) → IsGood rects → In r rects → IsCut rects r.y
 cut_above rects r g m = record {
-  above = λ s n h. ends s n (low_of s.y (r.y -ℤ pos 1) s.h h) (high_of s.y (r.y -ℤ pos 1) s.h h) (related rects r s g m n);
+  above = λ s n h. ends s n (spans_low s.y (r.y -ℤ pos 1) s.h h) (spans_high s.y (r.y -ℤ pos 1) s.h h) (related rects r s g m n);
   below = λ s n h. (mate rects r s r.y g m n (first_row r (each_in HasPixels rects r g.pixels m)) h).top;
 }
   where
@@ -246,7 +247,7 @@ cut_above rects r g m = record {
 cut_below : (rects : List Rect) (r : Rect) → IsGood rects → In r rects → IsCut rects (bottom r)
 cut_below rects r g m = record {
   above = λ s n h. let same = mate rects r s (bottom r -ℤ pos 1) g m n (last_row r pixels) h in ap (λ t. t +ℤ pos s.h) same.top ∙ ap (λ k. r.y +ℤ pos k) same.height;
-  below = λ s n h. starts s n (low_of s.y (bottom r) s.h h) (high_of s.y (bottom r) s.h h) (related rects r s g m n);
+  below = λ s n h. starts s n (spans_low s.y (bottom r) s.h h) (spans_high s.y (bottom r) s.h h) (related rects r s g m n);
 }
   where
     pixels : HasPixels r
@@ -266,11 +267,11 @@ piece rects r g m = record {
   inside = λ x y h k. held rects x y r (record { member = m; column = h; row = k });
   left_out = λ y h. not_held rects (r.x -ℤ pos 1) y (λ s k. left_gap rects r s y g m h k);
   right_out = λ y h. not_held rects (right r) y (λ s k. right_gap rects r s y g m h k);
-  alike = λ x y z h k. same_bools (any_holds rects (at x y)) (any_holds rects (at x z)) (alike_one rects r x y z g m h k) (alike_one rects r x z y g m k h);
-  above_differs = λ same. empty_has_none (filter (starts_at r.y) rects) r (g.unmerged r.y (same_at_cut rects r.y g (cut_above rects r g m) same)) (filter_in (starts_at r.y) rects r m (is_equal r.y r.y refl));
+  alike = λ x y z h k. same_test (any_holds rects (at x y)) (any_holds rects (at x z)) (alike_one rects r x y z g m h k) (alike_one rects r x z y g m k h);
+  above_differs = λ same. empty_has_none (filter (starts_at r.y) rects) r (g.unmerged r.y (same_at_cut rects r.y g (cut_above rects r g m) same)) (filter_in (starts_at r.y) rects r m (eq_test r.y r.y refl));
   below_differs = λ same.
       let spans_same = same_at_cut rects (bottom r) g (cut_below rects r g m) same in
-      empty_has_none (filter (ends_at (bottom r)) rects) r (nil_of_map span_of (filter (ends_at (bottom r)) rects) (spans_same ∙ ap (map span_of) (g.unmerged (bottom r) spans_same))) (filter_in (ends_at (bottom r)) rects r m (is_equal (bottom r) (bottom r) refl));
+      empty_has_none (filter (ends_at (bottom r)) rects) r (nil_of_map span_of (filter (ends_at (bottom r)) rects) (spans_same ∙ ap (map span_of) (g.unmerged (bottom r) spans_same))) (filter_in (ends_at (bottom r)) rects r m (eq_test (bottom r) (bottom r) refl));
 }
   where
     pixels : HasPixels r

@@ -14,7 +14,7 @@ pub record IsInRange (r : Rect) : Type 0 where
   pub high_bottom : bottom r ≤ℤ pos 32768
 
 -- what each region keeps: a canonical list, in range
-pub record IsKept (rects : List Rect) : Type 0 where
+pub record IsInForm (rects : List Rect) : Type 0 where
   pub canonical : IsCanonical rects
   pub in_range : All IsInRange rects
 

@@ -15,7 +15,7 @@ pub record IsSpan (r : Rect) : Type 0 where
 abbrev pub IsLeftOf : Rect → Rect → Type 0
 IsLeftOf r s = right r <ℤ s.x
 
-pub record IsRow (rects : List Rect) : Type 0 where
+pub record IsBandRow (rects : List Rect) : Type 0 where
   pub each : All IsSpan rects
   pub gapped : AllPairs IsLeftOf rects
 
@@ -47,7 +47,7 @@ IsLevel top height r = (r.y ≡ top) × (r.h ≡ height)
 
 -- a row of spans as rectangles that have those rows
 pub record IsBand (top : ℤ) (height : ℕ) (rects : List Rect) : Type 0 where
-  pub is_row : IsRow rects
+  pub is_row : IsBandRow rects
   pub level : All (IsLevel top height) rects
 
 -- a band of those columns was appended
@@ -60,8 +60,8 @@ pub record IsAdded (top : ℤ) (height : ℕ) (old new : List Rect) (columns : �
 -- the span is the first of two rows; what is left of both starts at it or to its right
 pub record IsTaken (span : Rect) (first second first_rest second_rest : List Rect) : Type 0 where
   pub is_span : IsSpan span
-  pub first_row : IsRow first_rest
-  pub second_row : IsRow second_rest
+  pub first_row : IsBandRow first_rest
+  pub second_row : IsBandRow second_rest
   pub first_ahead : All (StartsFrom span.x) first_rest
   pub second_ahead : All (StartsFrom span.x) second_rest
   pub columns : (c : ℤ) → (spans span.x span.w c || (has_column first_rest c || has_column second_rest c)) ≡ (has_column first c || has_column second c)

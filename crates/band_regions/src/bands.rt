@@ -4,7 +4,7 @@ ghost use Rattle.qws_base.specs.Points.{any_holds};
 ghost use Rattle.qws_base.specs.Regions.{bottom, span_of};
 ghost use Rattle.qws_base.specs.declared.points.Point.{Point};
 ghost use Rattle.band_regions.specs.Ranges.{IsInRange};
-ghost use Rattle.band_regions.specs.Rows.{IsRow, IsBand, has_column};
+ghost use Rattle.band_regions.specs.Rows.{IsBandRow, IsBand, has_column};
 ghost use Rattle.band_regions.specs.Bands.{IsBanded, IsRestOfBands, IsFirstLen, IsSweptTo, taller, EndsBelow, ReachesDown, in_row};
 
 use crate::rows::END;
@@ -71,7 +71,7 @@ pub fn row_at(rects: &[Rect], count: usize, row: i32) -> &[Rect]
     requires is_banded { IsBanded rects.now }
     requires count { IsFirstLen count rects.now }
     requires ahead { All (EndsBelow row) rects.now }
-    ensures is_row { IsRow result.now }
+    ensures is_row { IsBandRow result.now }
     ensures columns { (p : Point) → has_column result.now p.x ≡ any_holds rects.now (in_row row p) }
 {
     match rects {

@@ -11,4 +11,4 @@ mod runs;
 mod sweeps;
 
 pub use laws::{count_of_corners, one_list_for_a_set, unique_list};
-pub use regions::Region;
+pub use regions::{Region, are_in_range};

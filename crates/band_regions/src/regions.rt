@@ -24,17 +24,18 @@ pub struct Region {
 impl Model for Region {
     ghost use Rattle.std.specs.Prelude.{List};
     ghost use Rattle.qws_base.specs.declared.points.Rect.{Rect};
-    ghost use Rattle.band_regions.specs.Ranges.{IsKept};
+    ghost use Rattle.band_regions.specs.Ranges.{IsInForm};
 
     ghost Value = { List Rect };
 
     ghost view = { λ r. r.rects.items };
 
-    ghost invariant = { λ r. IsKept r.rects.items };
+    ghost invariant = { λ r. IsInForm r.rects.items };
 }
 
 impl Region {
-    /// The pixels of all the rectangles. One without width or height adds nothing.
+    /// The pixels of all the rectangles, which are in the range of regions, as `are_in_range` tells. One without width or height
+    /// adds nothing.
     pub fn of_rects(alloc: Global, rects: &[Rect]) -> Result<Region, OutOfMemory>
         requires { All IsInRange rects.now }
         ensures { IfOk result (λ region. IsRegionOf region (any_holds rects.now)) }
@@ -103,7 +104,8 @@ impl Region {
         })
     }
 
-    /// The pixels moved by so many columns to the right and rows down.
+    /// The pixels moved by so many columns to the right and rows down, each rectangle within the range of regions, as `can_shift`
+    /// tells.
     pub fn shift(&self, alloc: Global, dx: i32, dy: i32) -> Result<Region, OutOfMemory>
         requires { All (IsShiftable dx dy) self.now }
         ensures { IfOk result (λ region. IsRegionOf region (λ p. any_holds self.now (minus p (shift_of dx dy)))) }
@@ -212,6 +214,21 @@ fn is_in_range(rect: &Rect, dx: i32, dy: i32) -> bool
     ensures { IsTrue result ↔ IsShiftable dx dy rect.now }
 {
     is_side_in_range(dx, rect.x, rect.w) && is_side_in_range(dy, rect.y, rect.h)
+}
+
+/// Whether the rectangle is in range where it lies.
+fn lies_in_range(rect: &Rect) -> bool
+    ensures { IsTrue result ↔ IsInRange rect.now }
+{
+    is_in_range(rect, 0, 0)
+}
+
+/// Whether rectangles are in the range of regions, as `of_rects` asks: corners in -32,768 to 32,767, and right and bottom ends
+/// at most 32,768.
+pub fn are_in_range(rects: &[Rect]) -> bool
+    ensures { IsTrue result ↔ All IsInRange rects.now }
+{
+    rects.iter().all(|rect| lies_in_range(rect))
 }
 
 /// The rectangle moved by so many columns to the right and rows down.

@@ -1,7 +1,7 @@
 //! Rows of spans: the operations on two rows, each by one walk over their whole spans.
 ghost use Rattle.std.specs.Prelude.{◌≡◌, ◌+◌, ℤ, pos, negsuc, ◌+ℤ◌, ◌≤ℤ◌, ◌&&◌, ◌||◌, ◌++◌, not, length, ◌≢◌, OnOk};
 ghost use Rattle.qws_base.specs.Regions.{right};
-ghost use Rattle.band_regions.specs.Rows.{IsSpan, IsRow, IsAdded, IsTaken, has_column, columns_of, start_of_row};
+ghost use Rattle.band_regions.specs.Rows.{IsSpan, IsBandRow, IsAdded, IsTaken, has_column, columns_of, start_of_row};
 
 use qws_base::{OutOfMemory, Rect};
 
@@ -31,7 +31,7 @@ pub fn right_end(span: &Rect) -> i32
 
 /// Where the row starts; `END` where it has no span.
 fn start_of(row: &[Rect]) -> i32
-    requires { IsRow row.now }
+    requires { IsBandRow row.now }
     ensures { result ≡ start_of_row row.now }
 {
     match row {
@@ -70,7 +70,7 @@ pub fn copy_row(
     top: i32,
     height: u32,
 ) -> Result<(), OutOfMemory>
-    requires { IsRow row.now }
+    requires { IsBandRow row.now }
     ensures { OnOk result (IsAdded top height rects.old.items rects.new.items (has_column row.now)) }
 {
     for span in row {
@@ -86,8 +86,8 @@ pub fn copy_row(
 
 /// Takes the first span of two rows, of which there is one, off its row. Gives it and what is left of both.
 fn take_next<'a>(first: &'a [Rect], second: &'a [Rect]) -> (Rect, &'a [Rect], &'a [Rect])
-    requires first { IsRow first.now }
-    requires second { IsRow second.now }
+    requires first { IsBandRow first.now }
+    requires second { IsBandRow second.now }
     requires some { length first.now + length second.now ≢ 0 }
     ensures { IsTaken result.0 first.now second.now result.1.now result.2.now }
 {
@@ -106,8 +106,8 @@ pub fn unite_rows(
     top: i32,
     height: u32,
 ) -> Result<(), OutOfMemory>
-    requires first { IsRow first.now }
-    requires second { IsRow second.now }
+    requires first { IsBandRow first.now }
+    requires second { IsBandRow second.now }
     ensures { OnOk result (IsAdded top height rects.old.items rects.new.items (λ c. has_column first.now c || has_column second.now c)) }
 {
     let mut from = start_of(first).min(start_of(second));
@@ -135,8 +135,8 @@ pub fn meet_rows(
     top: i32,
     height: u32,
 ) -> Result<(), OutOfMemory>
-    requires first { IsRow first.now }
-    requires second { IsRow second.now }
+    requires first { IsBandRow first.now }
+    requires second { IsBandRow second.now }
     ensures { OnOk result (IsAdded top height rects.old.items rects.new.items (λ c. has_column first.now c && has_column second.now c)) }
 {
     let mut first = first;
@@ -163,8 +163,8 @@ pub fn subtract_row(
     top: i32,
     height: u32,
 ) -> Result<(), OutOfMemory>
-    requires first { IsRow first.now }
-    requires second { IsRow second.now }
+    requires first { IsBandRow first.now }
+    requires second { IsBandRow second.now }
     ensures { OnOk result (IsAdded top height rects.old.items rects.new.items (λ c. has_column first.now c && not (has_column second.now c))) }
 {
     let mut first = first;

@@ -1,6 +1,6 @@
 //! How much of a list of rectangles is canonical as it stands.
 ghost use Rattle.std.specs.Prelude.{◌≡◌, ◌≤◌, ◌<◌, length, take, All};
-ghost use Rattle.band_regions.specs.Ranges.{IsInRange, IsKept};
+ghost use Rattle.band_regions.specs.Ranges.{IsInRange, IsInForm};
 ghost use Rattle.std.specs.Bool.{OnTrue};
 ghost use Rattle.band_regions.specs.Runs.{IsNext, IsBandRun};
 
@@ -34,7 +34,7 @@ fn band_run(rects: &[Rect]) -> usize
 pub fn canonical_len(rects: &[Rect]) -> usize
     requires { All IsInRange rects.now }
     ensures within { result ≤ length rects.now }
-    ensures kept { IsKept (take result rects.now) }
+    ensures kept { IsInForm (take result rects.now) }
 {
     let mut last = 0;
     let mut end = 0;

@@ -2,9 +2,9 @@
 ghost use Rattle.std.specs.Prelude.{◌≡◌, IfOk, OnOk};
 ghost use Rattle.qws_base.specs.Points.{any_holds};
 ghost use Rattle.qws_base.specs.declared.points.Point.{Point};
-ghost use Rattle.band_regions.specs.Ranges.{IsKept};
+ghost use Rattle.band_regions.specs.Ranges.{IsInForm};
 ghost use Rattle.band_regions.specs.Operations.{keeps};
-ghost use Rattle.band_regions.specs.Rows.{IsRow, IsAdded, has_column};
+ghost use Rattle.band_regions.specs.Rows.{IsBandRow, IsAdded, has_column};
 ghost use Rattle.band_regions.specs.Bands.{IsBanded};
 
 use crate::bands::{close_band, first_len, next_row, past_row, row_at};
@@ -22,8 +22,8 @@ fn combine(
     top: i32,
     height: u32,
 ) -> Result<(), OutOfMemory>
-    requires first { IsRow first.now }
-    requires second { IsRow second.now }
+    requires first { IsBandRow first.now }
+    requires second { IsBandRow second.now }
     ensures { OnOk result (IsAdded top height rects.old.items rects.new.items (λ c. keeps operation (has_column first.now c) (has_column second.now c))) }
 {
     match operation {
@@ -46,7 +46,7 @@ pub fn sweep(
 ) -> Result<Vec<Rect>, OutOfMemory>
     requires first { IsBanded first.now }
     requires second { IsBanded second.now }
-    ensures kept { IfOk result (λ v. IsKept v.items) }
+    ensures kept { IfOk result (λ v. IsInForm v.items) }
     ensures points { IfOk result (λ v. (p : Point) → any_holds v.items p ≡ keeps operation (any_holds first.now p) (any_holds second.now p)) }
 {
     let mut rects = Vec::with_capacity(alloc, first.len().max(second.len()).saturating_mul(2))?;
