@@ -1,3 +1,1 @@
-pub mod PartLemmas
-pub mod RowLemmas
 pub mod TileLemmas

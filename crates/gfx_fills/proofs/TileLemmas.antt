@@ -1,7 +1,6 @@
 -- Columns that go round, and the pixels of tiles and blits.
-use Rattle.std.proofs.Common.{ℕ, ◌≡◌, ◌+◌, ◌-◌, ◌*◌, ◌/◌, ◌%◌, ◌<◌, ◌≤◌, ℤ, pos, ◌+ℤ◌, ◌-ℤ◌, ◌≤ℤ◌, ◌<ℤ◌, int_le, int_lt, nat_abs, Bool, true, false, ◌&&◌, List, length, map, slice_index, slice_range, refl, sym, ap, ◌∙◌, arith}
+use Rattle.std.proofs.Common.{ℕ, ◌≡◌, ◌+◌, ◌-◌, ◌*◌, ◌/◌, ◌%◌, ◌<◌, ◌≤◌, ℤ, pos, ◌+ℤ◌, ◌-ℤ◌, nat_abs, List, length, map, slice_index, slice_range, sym, ap, ◌∙◌, arith}
 use Rattle.std.proofs.Math.Nat.{add-mod, mod-lt, mod-mod}
-use Rattle.std.proofs.lemmas.Int.{ints}
 use Rattle.std.proofs.lemmas.Nat.{mod-mul-add, div-add-mod', row_fits_turned}
 use Rattle.std.proofs.lemmas.List.Edits.{length-between, get_or-between}
 use Rattle.std.specs.List.{range_with_len}
@@ -9,11 +8,11 @@ use Rattle.qws_base.specs.declared.inks.Ink.{Ink}
 use Rattle.qws_base.specs.declared.inks.Ink.TheVariants.{Skip}
 use Rattle.qws_base.specs.declared.points.Point.{Point}
 use Rattle.qws_base.specs.declared.points.Rect.{Rect}
-use Rattle.qws_base.specs.Points.{spans}
 use Rattle.qws_base.specs.Sheets.{row_of}
 use Rattle.gfx_fills.specs.Images.{ImageView, IsImage, pixel_of, pixel_ink, faded_ink, tile_sheet, blit_rect, blit_sheet}
-use Rattle.gfx_fills.specs.Parts.{IsInside}
-use Rattle.gfx_fills.proofs.RowLemmas.{row_inside, same_maps}
+use Rattle.picture_rows.specs.Runs.{IsInside}
+use Rattle.picture_rows.proofs.RunLemmas.{inside_column, inside_end, further}
+use Rattle.picture_rows.proofs.RowLemmas.{row_inside, same_maps}
 
 -- the column after one
 pub next_column : (a n c : ℕ) → c ≡ a % n → c + 1 < n → (a + 1) % n ≡ c + 1
@@ -22,47 +21,6 @@ next_column a n c e h = ap (λ m. m % n) (omega (arith, div-add-mod' a n)) ∙ m
 -- after the last column comes the first
 pub first_column : (a n c : ℕ) → c ≡ a % n → c + 1 ≡ n → (a + 1) % n ≡ 0
 first_column a n c e h = ap (λ m. m % n) (omega (arith, div-add-mod' a n)) ∙ mod-mul-add (a / n + 1) n 0 (omega arith)
-
-left_of : (a b : Bool) → (a && b) ≡ true → a ≡ true
-left_of true b h = refl
-left_of false b h = cc
-
-right_of : (a b : Bool) → (a && b) ≡ true → b ≡ true
-right_of true b h = h
-right_of false b h = cc
-
--- the row and the columns of points that are inside
-pub inside_row : (r : Rect) (y x : ℤ) (n : ℕ) → IsInside r y x n → 0 < n → spans r.y r.h y ≡ true
-inside_row r y x n p h = right_of (spans r.x r.w (x +ℤ pos 0)) (spans r.y r.h y) (p.all 0 h)
-
-inside_at : (r : Rect) (y x : ℤ) (n k : ℕ) → IsInside r y x n → k < n → spans r.x r.w (x +ℤ pos k) ≡ true
-inside_at r y x n k p h = left_of (spans r.x r.w (x +ℤ pos k)) (spans r.y r.h y) (p.all k h)
-
-pub inside_column : (r : Rect) (y x : ℤ) (n : ℕ) → IsInside r y x n → 0 < n → spans r.x r.w x ≡ true
-inside_column r y x n p h = let same : x +ℤ pos 0 ≡ x = omega (arith, ints) in rw same at (inside_at r y x n 0 p h)
-
-le_told : (a b : ℤ) → int_le a b ≡ true → a ≤ℤ b
-le_told a b h = grind (arith, ints)
-
-lt_told : (a b : ℤ) → int_lt a b ≡ true → a <ℤ b
-lt_told a b h = grind (arith, ints)
-
--- how far a place is from the start
-pub after_start : (low at : ℤ) (n : ℕ) → spans low n at ≡ true → (low +ℤ pos (nat_abs (at -ℤ low)) ≡ at) × (nat_abs (at -ℤ low) < n)
-after_start low at n h =
-    let a : low ≤ℤ at = le_told low at (left_of (int_le low at) (int_lt at (low +ℤ pos n)) h) in
-    let b : at <ℤ (low +ℤ pos n) = lt_told at (low +ℤ pos n) (right_of (int_le low at) (int_lt at (low +ℤ pos n)) h) in
-    (omega (arith, ints), omega (arith, ints))
-
-further : (low at : ℤ) (n k : ℕ) → spans low n at ≡ true → nat_abs ((at +ℤ pos k) -ℤ low) ≡ nat_abs (at -ℤ low) + k
-further low at n k h = let s = after_start low at n h in omega (arith, ints, s.0)
-
--- the columns that the points take end within the rectangle
-pub inside_end : (r : Rect) (y x : ℤ) (n : ℕ) → IsInside r y x n → 0 < n → nat_abs (x -ℤ r.x) + n ≤ r.w
-inside_end r y x n p h =
-    let last = after_start r.x (x +ℤ pos (n - 1)) r.w (inside_at r y x n (n - 1) p (omega arith)) in
-    let far = further r.x x r.w (n - 1) (inside_column r y x n p h) in
-    omega (arith, last.1, far)
 
 -- the pixels of one row
 pub row_length : (image : ImageView) (i : ℕ) → IsImage image → i < image.h → length (slice_range image.pixels (i * image.w) (i * image.w + image.w)) ≡ image.w

@@ -3,10 +3,10 @@ ghost use Rattle.std.specs.Prelude.{◌≡◌, ◌+◌, ◌≤◌, length, map, 
 ghost use Rattle.std.specs.List.{range_with_len};
 ghost use Rattle.qws_base.specs.Sheets.{row_of};
 ghost use Rattle.gfx_fills.specs.Images.{faded_ink, blit_rect, blit_sheet};
-ghost use Rattle.gfx_fills.specs.Parts.{IsInside};
+ghost use Rattle.picture_rows.specs.Runs.{IsInside};
 
 use crate::images::{Image, faded_ink};
-use crate::parts::{part, places_after, skip_around};
+use picture_rows::{part, places_after, skip_around};
 use qws_base::{Ink, Picture, Point, Rect};
 use std::marker::Model;
 

@@ -1,7 +1,7 @@
 //! Fills: one ink on a rectangle.
 ghost use Rattle.std.specs.Prelude.{◌≡◌};
 
-use crate::parts::{part, skip_around};
+use picture_rows::{fill_run, part};
 use qws_base::{Ink, Picture, Rect};
 use std::marker::Model;
 
@@ -64,7 +64,6 @@ impl Picture for Fill {
 
     fn row(&self, y: i32, x: i32, out: &mut [Ink]) {
         let (from, to) = part(self.rect, y, x, out.len());
-        skip_around(from, to, out);
-        out[from..to].fill(self.ink);
+        fill_run(from, to, &self.ink, out);
     }
 }

@@ -1,5 +1,5 @@
 //! Images: pixels by rows, each a colour with an alpha.
-ghost use Rattle.std.specs.Prelude.{◌≡◌, ◌+◌, ◌*◌, ◌/◌, ◌<◌, ◌^◌, ◌↔◌, ◌⊎◌, IsTrue, length, slice_range, IfOk, IfErr};
+ghost use Rattle.std.specs.Prelude.{◌≡◌, ◌+◌, ◌*◌, ◌/◌, ◌<◌, ◌^◌, ◌↔◌, ◌⊎◌, IsTrue, length, slice_range, IfOk, IfErr, OnOk};
 ghost use Rattle.gfx_fills.specs.Images.{IsImageSize, IsImage, colour_in, veil, pixel_ink, faded_ink};
 
 use qws_base::{Ink, Rgb};
@@ -42,9 +42,10 @@ fn is_image_size(w: u32, h: u32, count: u64) -> bool
 }
 
 impl Image {
-    /// An image of those pixels, which it copies.
+    /// An image of those pixels, which it copies. An Ok tells that width, height and number of pixels are good.
     pub fn new(alloc: Global, w: u32, h: u32, pixels: &[u32]) -> Result<Image, ImageStop>
         ensures made { IfOk result (λ image. image ≡ record { w = w; h = h; pixels = pixels.now }) }
+        ensures good { OnOk result (IsImageSize w h (length pixels.now)) }
         ensures bad_size { (result ≡ Err (ImageStop.BadSize w h (length pixels.now))) ↔ ¬ IsImageSize w h (length pixels.now) }
         ensures no_other { IfErr result (λ stop. (stop ≡ ImageStop.BadSize w h (length pixels.now)) ⊎ (stop ≡ ImageStop.OutOfMemory)) }
     {

@@ -4,7 +4,6 @@
 mod blits;
 mod fills;
 mod images;
-mod parts;
 mod tiles;
 
 pub use blits::Blit;

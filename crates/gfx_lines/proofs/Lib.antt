@@ -1,5 +1,5 @@
-pub mod Tests
+pub mod StepTests
 pub mod LineLemmas
 pub mod StepLemmas
-pub mod RowLemmas
 pub mod ReachLemmas
+pub mod ColumnLemmas

@@ -1,30 +1,35 @@
 -- The points of a line by their steps.
-use Rattle.std.proofs.Common.{ℕ, ◌≡◌, ◌+◌, ◌*◌, ◌/◌, ◌<◌, ◌≤◌, ℤ, ◌≤ℤ◌, Bool, true, false, ◌&&◌, refl, sym, ap, ◌∙◌, arith, ◌⊎◌, inl, inr}
+use Rattle.std.proofs.Common.{ℕ, ◌≡◌, ◌+◌, ◌*◌, ◌/◌, ◌%◌, ◌<◌, ◌≤◌, ℤ, ◌≤ℤ◌, Bool, true, false, ◌&&◌, refl, sym, ap, ◌∙◌, arith, ◌⊎◌, inl, inr}
 use Rattle.std.proofs.lemmas.Int.{ints}
-use Rattle.std.proofs.lemmas.Bool.{cases_lt}
+use Rattle.std.proofs.lemmas.Bool.{cases_lt, and_from, and_parts}
 use Rattle.std.proofs.lemmas.Bool.Decides.{Decides-int_eq, nat_tests}
 use Rattle.std.proofs.lemmas.Nat.{mul-le, div-mul-add}
 use Rattle.std.specs.List.{list_any, range_with_len}
 use Rattle.std.specs.Ordering.{int_eq}
 use Rattle.qws_base.specs.declared.points.Point.{Point}
 use Rattle.gfx_lines.specs.Lines.{apart, toward, aside, is_flat, is_steep, steps, line_point, same_point, on_line}
-use Rattle.gfx_lines.specs.Walks.{IsWalk}
-use Rattle.gfx_lines.proofs.Tests.{both_true, true_both, and_comm, same_test, never, list_any_same, found, found_at}
+use Rattle.qws_base.proofs.Booleans.{and_comm, same_test}
+use Rattle.gfx_lines.proofs.StepTests.{list_any_same, found, found_at}
 
--- ---- the walk along a line
+-- ---- how far a line has gone
 
-pub aside_of_walk : (long short k gone error : ℕ) → IsWalk long short k gone error → aside long short k ≡ gone
-aside_of_walk long short k gone error w = ap (λ n. n / (2 * long)) (sym w.sum) ∙ div-mul-add gone (2 * long) error w.below
+aside_is : (long short k gone error : ℕ) → gone * (2 * long) + error ≡ 2 * k * short + long → error < 2 * long → aside long short k ≡ gone
+aside_is long short k gone error e b = ap (λ n. n / (2 * long)) (sym e) ∙ div-mul-add gone (2 * long) error b
 
-pub gone_within : (long short k gone error : ℕ) → IsWalk long short k gone error → k ≤ long → gone ≤ short
-gone_within long short k gone error w h = by (cases_lt short gone) where
-  by : (short < gone) ⊎ (gone ≤ short) → gone ≤ short
-  by (inl g) = absurd (omega (arith, w.sum, w.below, mul-le (short + 1) (2 * long) gone (2 * long) (omega arith) (omega arith), mul-le k short long short h (omega arith)))
-  by (inr g) = g
+pub aside_within : (long short k : ℕ) → 0 < long → k ≤ long → aside long short k ≤ short
+aside_within long short k some h =
+    let sum : aside long short k * (2 * long) + (2 * k * short + long) % (2 * long) ≡ 2 * k * short + long = omega arith in
+    let rest : (2 * k * short + long) % (2 * long) < 2 * long = omega arith in
+    by sum rest (cases_lt short (aside long short k)) where
+      by : aside long short k * (2 * long) + (2 * k * short + long) % (2 * long) ≡ 2 * k * short + long → (2 * k * short + long) % (2 * long) < 2 * long → (short < aside long short k) ⊎ (aside long short k ≤ short) → aside long short k ≤ short
+      by sum rest (inl g) = absurd (omega (arith, sum, rest, mul-le (2 * long) (short + 1) (2 * long) (aside long short k) (omega arith) (omega arith), mul-le k short long short h (omega arith)))
+      by sum rest (inr g) = g
 
-pub walk_on : (long short k gone error gone' error' : ℕ) → IsWalk long short k gone error
-    → gone' * (2 * long) + error' ≡ gone * (2 * long) + error + 2 * short → error' < 2 * long → IsWalk long short (k + 1) gone' error'
-walk_on long short k gone error gone' error' w e b = record { sum = omega (arith, w.sum); below = b }
+pub aside_none : (long short : ℕ) → 0 < long → aside long short 0 ≡ 0
+aside_none long short some = aside_is long short 0 0 long (omega arith) (omega arith)
+
+pub aside_all : (long short : ℕ) → 0 < long → aside long short long ≡ short
+aside_all long short some = aside_is long short long short long (omega arith) (omega arith)
 
 -- ---- steps from a coordinate toward another
 
@@ -47,17 +52,12 @@ slope_at a b a' b' at across k h e = same_test _ _ there back where
   there : on_slope a b a' b' at across ≡ true → int_eq (toward a' b' (aside (apart a b) (apart a' b') k)) across ≡ true
   there t =
       let f = found (λ k. int_eq (toward a b k) at && int_eq (toward a' b' (aside (apart a b) (apart a' b') k)) across) (apart a b) t in
-      let p = both_true _ _ f.2 in
+      let p = and_parts _ _ f.2 in
       let same : f.0 ≡ k = sym (toward_apart a b f.0 f.1) ∙ ap (apart a) ((Decides-int_eq _ _).0 p.0 ∙ sym e) ∙ toward_apart a b k h in
       ap (λ j. int_eq (toward a' b' (aside (apart a b) (apart a' b') j)) across) (sym same) ∙ p.1
 
   back : int_eq (toward a' b' (aside (apart a b) (apart a' b') k)) across ≡ true → on_slope a b a' b' at across ≡ true
-  back t = found_at (λ k. int_eq (toward a b k) at && int_eq (toward a' b' (aside (apart a b) (apart a' b') k)) across) (apart a b) k h (true_both _ _ ((Decides-int_eq _ _).1 e) t)
-
-pub slope_off : (a b a' b' at across : ℤ) → ((k : ℕ) → k ≤ apart a b → toward a b k ≡ at → ⊥) → on_slope a b a' b' at across ≡ false
-slope_off a b a' b' at across away = never _ (λ t.
-    let f = found (λ k. int_eq (toward a b k) at && int_eq (toward a' b' (aside (apart a b) (apart a' b') k)) across) (apart a b) t in
-    absurd (away f.0 f.1 ((Decides-int_eq _ _).0 (both_true _ _ f.2).0)))
+  back t = found_at (λ k. int_eq (toward a b k) at && int_eq (toward a' b' (aside (apart a b) (apart a' b') k)) across) (apart a b) k h (and_from _ _ ((Decides-int_eq _ _).1 e) t)
 
 -- ---- lines by their kind
 

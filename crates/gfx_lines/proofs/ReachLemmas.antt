@@ -1,46 +1,28 @@
 -- Bounds hold their points, and the points of the lines between them.
-use Rattle.std.proofs.Common.{ℕ, ◌≡◌, ◌+◌, ◌*◌, ◌/◌, ◌%◌, ◌<◌, ◌≤◌, ℤ, pos, ◌+ℤ◌, ◌-ℤ◌, ◌≤ℤ◌, int_le, int_lt, nat_abs, Bool, true, false, ◌&&◌, ◌||◌, cond, List, [], ◌∷◌, length, get_or, refl, sym, ap, ◌∙◌, arith, ◌⊎◌, inl, inr}
+use Rattle.std.proofs.Common.{ℕ, ◌≡◌, ◌<◌, ◌≤◌, ℤ, ◌≤ℤ◌, Bool, true, false, ◌&&◌, ◌||◌, cond, List, [], ◌∷◌, refl, sym, ap, ◌∙◌, arith, ◌⊎◌, inl, inr}
 use Rattle.std.proofs.lemmas.Int.{ints}
+use Rattle.std.proofs.lemmas.Bool.{and_from, and_parts}
 use Rattle.std.proofs.lemmas.Bool.Decides.{Decides-int_eq, nat_tests}
 use Rattle.std.proofs.lemmas.List.Elements.{All-head, All-tail}
-use Rattle.std.proofs.lemmas.List.FromFn.{fill_by_all}
 use Rattle.std.specs.List.{All}
 use Rattle.std.specs.Ordering.{int_eq}
 use Rattle.qws_base.specs.declared.points.Point.{Point}
-use Rattle.qws_base.specs.declared.points.Rect.{Rect}
-use Rattle.qws_base.specs.declared.inks.Ink.{Ink}
 use Rattle.qws_base.specs.declared.inks.Ink.TheVariants.{Skip, Copy}
-use Rattle.qws_base.specs.Points.{spans, holds}
-use Rattle.qws_base.specs.Sheets.{sheet_of, ink_at, row_of}
-use Rattle.qws_base.proofs.PictureLaws.{ink_of_sheet}
 use Rattle.qws_base.specs.declared.bounds.Bounds.{Bounds}
+use Rattle.qws_base.specs.Points.{holds}
+use Rattle.qws_base.specs.Sheets.{ink_at}
 use Rattle.qws_base.specs.Bounds.{bounds_of}
 use Rattle.qws_base.proofs.BoundsLemmas.{Holds, bounds_first, bounds_rest}
+use Rattle.qws_base.proofs.Integers.{eq_test}
+use Rattle.picture_rows.specs.Boxes.{closed_reach}
+use Rattle.picture_rows.proofs.ReachLemmas.{in_closed}
+use Rattle.picture_rows.proofs.RowLemmas.{ink_of_test}
 use Rattle.gfx_lines.specs.Lines.{apart, toward, aside, is_flat, is_steep, steps, line_point, same_point, on_line}
-use Rattle.gfx_lines.specs.Strokes.{rect_of, LineView, line_sheet, on_lines_from, on_polyline, polyline_reach}
-use Rattle.gfx_lines.specs.Walks.{IsLaid}
-use Rattle.gfx_lines.proofs.Tests.{both_true, true_both, found, found_at, equal}
-use Rattle.gfx_lines.proofs.LineLemmas.{aside_of_walk, gone_within, toward_low, toward_high, on_slope, steps_of_flat, steps_of_steep, flat_line, steep_line, dot_line, dot_point}
-use Rattle.gfx_lines.proofs.RowLemmas.{pixel}
-
-le_test : (a b : ℤ) → a ≤ℤ b → int_le a b ≡ true
-le_test a b h = grind (arith, ints)
-
-lt_test : (left right at : ℤ) → left ≤ℤ at → at ≤ℤ right → int_lt at (left +ℤ pos (nat_abs (right -ℤ left) + 1)) ≡ true
-lt_test left right at h g = grind (arith, ints)
-
-pub holds_rect : (b : Bounds) (p : Point) → Holds b p → holds (rect_of b) p ≡ true
-holds_rect b p h =
-    true_both (spans b.left (nat_abs (b.right -ℤ b.left) + 1) p.x) (spans b.top (nat_abs (b.bottom -ℤ b.top) + 1) p.y)
-    (true_both (int_le b.left p.x) _ (le_test b.left p.x h.left) (lt_test b.left b.right p.x h.left h.right))
-    (true_both (int_le b.top p.y) _ (le_test b.top p.y h.top) (lt_test b.top b.bottom p.y h.top h.bottom))
+use Rattle.gfx_lines.specs.Strokes.{LineView, line_sheet, on_lines_from, on_polyline}
+use Rattle.gfx_lines.proofs.StepTests.{found, found_at}
+use Rattle.gfx_lines.proofs.LineLemmas.{aside_within, aside_none, aside_all, toward_low, toward_high, on_slope, steps_of_flat, steps_of_steep, flat_line, steep_line, dot_line, dot_point}
 
 -- ---- the points of a line
-
-aside_within : (long short k : ℕ) → 0 < long → k ≤ long → aside long short k ≤ short
-aside_within long short k some h =
-    let sum : ℕ = 2 * k * short + long in
-    gone_within long short k (sum / (2 * long)) (sum % (2 * long)) (record { sum = omega arith; below = omega arith }) h
 
 between : (low high a b at : ℤ) (k : ℕ) → low ≤ℤ a → low ≤ℤ b → a ≤ℤ high → b ≤ℤ high → k ≤ apart a b → toward a b k ≡ at → (low ≤ℤ at) × (at ≤ℤ high)
 between low high a b at k la lb ha hb few e =
@@ -52,7 +34,7 @@ slope_within : (low high low' high' a b a' b' at across : ℤ) → 0 < apart a b
     → on_slope a b a' b' at across ≡ true → ((low ≤ℤ at) × (at ≤ℤ high)) × ((low' ≤ℤ across) × (across ≤ℤ high'))
 slope_within low high low' high' a b a' b' at across some la lb ha hb la' lb' ha' hb' t =
     let f = found (λ k. int_eq (toward a b k) at && int_eq (toward a' b' (aside (apart a b) (apart a' b') k)) across) (apart a b) t in
-    let p = both_true _ _ f.2 in (
+    let p = and_parts _ _ f.2 in (
       between low high a b at f.0 la lb ha hb f.1 ((Decides-int_eq _ _).0 p.0),
       between low' high' a' b' across (aside (apart a b) (apart a' b') f.0) la' lb' ha' hb' (aside_within (apart a b) (apart a' b') f.0 some f.1) ((Decides-int_eq _ _).0 p.1),
     )
@@ -73,7 +55,7 @@ line_within r a b p ha hb t = by (is_flat a b) (is_steep a b) refl refl where
       let w = slope_within r.top r.bottom r.left r.right a.y b.y a.x b.x p.y p.x (steep_some a b steep) ha.top hb.top ha.bottom hb.bottom ha.left hb.left ha.right hb.right (sym (steep_line a b p steep) ∙ t) in
       record { left = w.1.0; right = w.1.1; top = w.0.0; bottom = w.0.1 }
   by false false flat steep =
-      let s = both_true (int_eq a.x p.x) (int_eq a.y p.y) (sym (dot_line a b p flat steep) ∙ t) in
+      let s = and_parts (int_eq a.x p.x) (int_eq a.y p.y) (sym (dot_line a b p flat steep) ∙ t) in
       let x : a.x ≡ p.x = (Decides-int_eq a.x p.x).0 s.0 in
       let y : a.y ≡ p.y = (Decides-int_eq a.y p.y).0 s.1 in
       record { left = omega (arith, ints, ha.left); right = omega (arith, ints, ha.right); top = omega (arith, ints, ha.top); bottom = omega (arith, ints, ha.bottom) }
@@ -90,9 +72,15 @@ lines_within r a (b ∷ rest) p ha all t =
       by (inl h) later = line_within r a b p ha (All-head (Holds r) b rest all) h
       by (inr h) later = later h
 
-pub polyline_within : (ps : List Point) (p : Point) → on_polyline ps p ≡ true → holds (polyline_reach ps) p ≡ true
+-- the reach of a line, and of more
+pub ends_within : (a b p : Point) → on_line a b p ≡ true → holds (closed_reach (a ∷ b ∷ [])) p ≡ true
+ends_within a b p t =
+    let r : Bounds = bounds_of a (b ∷ []) in
+    in_closed r p (line_within r a b p (bounds_first a (b ∷ [])) (All-head (Holds r) b [] (bounds_rest a (b ∷ []))) t)
+
+pub polyline_within : (ps : List Point) (p : Point) → on_polyline ps p ≡ true → holds (closed_reach ps) p ≡ true
 polyline_within [] p t = cc
-polyline_within (a ∷ rest) p t = holds_rect (bounds_of a rest) p (lines_within (bounds_of a rest) a rest p (bounds_first a rest) (bounds_rest a rest) t)
+polyline_within (a ∷ rest) p t = in_closed (bounds_of a rest) p (lines_within (bounds_of a rest) a rest p (bounds_first a rest) (bounds_rest a rest) t)
 
 -- ---- the ends of a line
 
@@ -111,13 +99,7 @@ toward_all a b = grind (arith, ints)
 on_line_at : (a b p : Point) (k : ℕ) → k ≤ steps a b → line_point a b k ≡ p → on_line a b p ≡ true
 on_line_at a b p k few e =
     found_at (λ j. same_point (line_point a b j) p) (steps a b) k few
-    (ap (λ q. same_point q p) e ∙ true_both (int_eq p.x p.x) (int_eq p.y p.y) (equal p.x p.x refl) (equal p.y p.y refl))
-
-aside_none : (long short : ℕ) → 0 < long → aside long short 0 ≡ 0
-aside_none long short some = aside_of_walk long short 0 0 long (record { sum = omega arith; below = omega arith })
-
-aside_all : (long short : ℕ) → 0 < long → aside long short long ≡ short
-aside_all long short some = aside_of_walk long short long short long (record { sum = omega arith; below = omega arith })
+    (ap (λ q. same_point q p) e ∙ and_from (int_eq p.x p.x) (int_eq p.y p.y) (eq_test p.x p.x refl) (eq_test p.y p.y refl))
 
 first_point : (a b : Point) → line_point a b 0 ≡ a
 first_point a b = by (is_flat a b) (is_steep a b) refl refl where
@@ -136,31 +118,10 @@ last_point a b = by (is_flat a b) (is_steep a b) refl refl where
   by false false flat steep = dot_point a b (steps a b) flat steep ∙ same_from_none a b (grind (arith, nat_tests)) (grind (arith, nat_tests))
 
 line_ink : (l : LineView) (p : Point) → on_line l.from l.to p ≡ true → ink_at (line_sheet l) p ≡ Copy l.colour
-line_ink l p t =
-    let b : Bounds = bounds_of l.from (l.to ∷ []) in
-    let held = holds_rect b p (line_within b l.from l.to p (bounds_first l.from (l.to ∷ [])) (All-head (Holds b) l.to [] (bounds_rest l.from (l.to ∷ []))) t) in
-    ink_of_sheet (rect_of b) (λ q. cond (on_line l.from l.to q) (Copy l.colour) Skip) p
-    ∙ ap (λ h. cond h (cond (on_line l.from l.to p) (Copy l.colour) Skip) Skip) held
-    ∙ ap (λ h. cond h (Copy l.colour) Skip) t
+line_ink l p t = ink_of_test (closed_reach (l.from ∷ l.to ∷ [])) (on_line l.from l.to) (Copy l.colour) p (ends_within l.from l.to p) ∙ ap (λ h. cond h (Copy l.colour) Skip) t
 
 pub first_end : (l : LineView) → ink_at (line_sheet l) l.from ≡ Copy l.colour
 first_end l = line_ink l l.from (on_line_at l.from l.to l.from 0 (omega arith) (first_point l.from l.to))
 
 pub last_end : (l : LineView) → ink_at (line_sheet l) l.to ≡ Copy l.colour
 last_end l = line_ink l l.to (on_line_at l.from l.to l.to (steps l.from l.to) (omega arith) (last_point l.from l.to))
-
--- ---- a row that got its ink from Skip
-
-inked : (t : Bool) (r : Rect) (f : Point → Bool) (ink : Ink) (p : Point) → f p ≡ t → (f p ≡ true → holds r p ≡ true)
-    → cond t ink Skip ≡ ink_at (sheet_of r (λ q. cond (f q) ink Skip)) p
-inked true r f ink p e h = sym (ink_of_sheet r (λ q. cond (f q) ink Skip) p ∙ ap (λ b. cond b (cond (f p) ink Skip) Skip) (h e) ∙ ap (λ b. cond b ink Skip) e)
-inked false r f ink p e h = sym (ink_of_sheet r (λ q. cond (f q) ink Skip) p ∙ ap (λ b. cond (holds r p) (cond b ink Skip) Skip) e ∙ nothing (holds r p)) where
-  nothing : (b : Bool) → cond b Skip Skip ≡ Skip
-  nothing true = refl
-  nothing false = refl
-
-pub row_of_laid : (r : Rect) (f : Point → Bool) (ink : Ink) (y x : ℤ) (was now : List Ink) (n : ℕ) → length was ≡ n → ((k : ℕ) → k < length was → get_or was k Skip ≡ Skip) → IsLaid f ink y x was now
-    → ((p : Point) → f p ≡ true → holds r p ≡ true) → now ≡ row_of (sheet_of r (λ p. cond (f p) ink Skip)) y x n
-row_of_laid r f ink y x was now n e none laid within =
-    fill_by_all (λ k. ink_at (sheet_of r (λ p. cond (f p) ink Skip)) (pixel y x k)) now n Skip (laid.same_length ∙ e)
-    (λ k below. laid.at k (omega arith) ∙ ap (λ i. cond (f (pixel y x k)) ink i) (none k (omega arith)) ∙ inked (f (pixel y x k)) r f ink (pixel y x k) refl (within (pixel y x k)))

@@ -1,12 +1,13 @@
 -- At which step a line has gone how far along its shorter side.
-use Rattle.std.proofs.Common.{ℕ, ◌≡◌, ◌+◌, ◌-◌, ◌*◌, ◌/◌, ◌<◌, ◌≤◌, ◌⊎◌, inl, inr, ap, ◌∙◌, arith}
+use Rattle.std.proofs.Common.{ℕ, ◌≡◌, ◌+◌, ◌-◌, ◌*◌, ◌/◌, min, ◌<◌, ◌≤◌, ◌⊎◌, inl, inr, ap, ◌∙◌, arith}
 use Rattle.std.proofs.lemmas.Bool.{cases_lt}
 use Rattle.std.proofs.lemmas.Int.{ints, clamps}
 use Rattle.std.proofs.lemmas.Nat.{mul-le}
 use Rattle.std.specs.Prelude.{ℤ, ◌-ℤ◌, ◌≤ℤ◌, nat_abs}
 use Rattle.std.specs.Int.{int_min, int_max}
 use Rattle.gfx_lines.specs.Lines.{apart, aside}
-use Rattle.gfx_lines.specs.Walks.{AreStepsGone}
+use Rattle.gfx_lines.specs.Columns.{AreStepsGone}
+use Rattle.gfx_lines.proofs.LineLemmas.{aside_all}
 
 -- a quotient and what it leaves
 record IsQuotient (x d q : ℕ) : Type 0 where
@@ -57,24 +58,33 @@ level long short k some e =
 
 pub none_aside : (long short gone : ℕ) → 0 < long → short ≡ 0 → gone ≤ short → AreStepsGone long short gone 0 (long + 1)
 none_aside long short gone some e l = record {
-  inside = λ k i j m. level long short k some e ∙ omega arith;
+  ordered = omega arith;
+  within = omega arith;
+  inside = λ k i j. level long short k some e ∙ omega arith;
   all = λ k m t. (omega arith, omega arith);
 }
 
-pub between_firsts : (long short gone first end : ℕ) → ((k : ℕ) → first ≤ k → gone ≤ aside long short k) → ((k : ℕ) → k < first → aside long short k < gone)
-    → ((k : ℕ) → end ≤ k → gone + 1 ≤ aside long short k) → ((k : ℕ) → k < end → aside long short k < gone + 1) → AreStepsGone long short gone first end
-between_firsts long short gone first end a b c d = record {
-  inside = λ k i j m. omega (arith, a k i, d k j);
-  all = λ k m t. (from (cases_lt k first) (b k) t, to (cases_lt k end) (c k) t);
+pub between_firsts : (long short gone first next end : ℕ) → 0 < long → gone ≤ short → ((k : ℕ) → first ≤ k → gone ≤ aside long short k) → ((k : ℕ) → k < first → aside long short k < gone)
+    → ((k : ℕ) → next ≤ k → gone + 1 ≤ aside long short k) → ((k : ℕ) → k < next → aside long short k < gone + 1) → end ≡ min next (long + 1) → AreStepsGone long short gone first end
+between_firsts long short gone first next end some few a b c d e = record {
+  ordered = ordered (cases_lt long first) (cases_lt next first);
+  within = omega arith;
+  inside = λ k i j. omega (arith, a k i, d k (omega arith));
+  all = λ k m t. (from (cases_lt k first) (b k) t, to k m (cases_lt k next) (c k) t);
 }
   where
+    ordered : (long < first) ⊎ (first ≤ long) → (next < first) ⊎ (first ≤ next) → first ≤ end
+    ordered (inl l) m = absurd (omega (arith, b long l, aside_all long short some))
+    ordered (inr l) (inl m) = absurd (omega (arith, b next m, c next (omega arith)))
+    ordered (inr l) (inr m) = omega arith
+
     from : {k : ℕ} → (k < first) ⊎ (first ≤ k) → (k < first → aside long short k < gone) → aside long short k ≡ gone → first ≤ k
     from (inl l) f t = absurd (omega (arith, f l))
     from (inr l) f t = l
 
-    to : {k : ℕ} → (k < end) ⊎ (end ≤ k) → (end ≤ k → gone + 1 ≤ aside long short k) → aside long short k ≡ gone → k < end
-    to (inl l) f t = l
-    to (inr l) f t = absurd (omega (arith, f l))
+    to : (k : ℕ) → k ≤ long → (k < next) ⊎ (next ≤ k) → (next ≤ k → gone + 1 ≤ aside long short k) → aside long short k ≡ gone → k < end
+    to k m (inl l) f t = omega arith
+    to k m (inr l) f t = absurd (omega (arith, f l))
 
 -- ---- how far apart two coordinates are
 

@@ -1,3 +1,3 @@
 pub mod Lines
-pub mod Walks
+pub mod Columns
 pub mod Strokes

@@ -1,18 +1,13 @@
 -- What lines and polylines show.
-use Rattle.std.specs.Prelude.{ℕ, ◌+◌, ◌≤◌, pos, ◌-ℤ◌, nat_abs, Bool, false, ◌||◌, List, [], ◌∷◌, length, if◌then◌else◌}
+use Rattle.std.specs.Prelude.{ℕ, Bool, false, ◌||◌, List, [], ◌∷◌, length, if◌then◌else◌}
 use Rattle.std.specs.List.{All}
 use Rattle.qws_base.specs.declared.points.Point.{Point}
-use Rattle.qws_base.specs.declared.points.Rect.{Rect}
 use Rattle.qws_base.specs.declared.inks.Ink.TheVariants.{Skip, Copy}
 use Rattle.qws_base.specs.Points.{IsPlaced}
 use Rattle.qws_base.specs.Sheets.{Sheet, sheet_of}
-use Rattle.qws_base.specs.declared.bounds.Bounds.{Bounds}
-use Rattle.qws_base.specs.Bounds.{bounds_of}
+use Rattle.picture_rows.specs.Boxes.{closed_reach}
+use Rattle.picture_rows.specs.Counts.{IsPointCount}
 use Rattle.gfx_lines.specs.Lines.{on_line}
-
--- the rectangle of the columns and rows within bounds, the outermost ones among them
-abbrev pub rect_of : Bounds → Rect
-rect_of b = record { x = b.left; y = b.top; w = nat_abs (b.right -ℤ b.left) + 1; h = nat_abs (b.bottom -ℤ b.top) + 1 }
 
 -- a line is seen as its ends and its colour
 pub record LineView : Type 0 where
@@ -22,7 +17,7 @@ pub record LineView : Type 0 where
 
 -- the colour at each point of the line
 abbrev pub line_sheet : LineView → Sheet
-line_sheet l = sheet_of (rect_of (bounds_of l.from (l.to ∷ []))) (λ p. if on_line l.from l.to p then Copy l.colour else Skip)
+line_sheet l = sheet_of (closed_reach (l.from ∷ l.to ∷ [])) (λ p. if on_line l.from l.to p then Copy l.colour else Skip)
 
 -- a polyline is seen as its points and its colour
 pub record PolylineView : Type 0 where
@@ -38,18 +33,13 @@ abbrev pub on_polyline : List Point → Point → Bool
 on_polyline [] p = false
 on_polyline (a ∷ rest) p = on_lines_from a rest p
 
-abbrev pub polyline_reach : List Point → Rect
-polyline_reach [] = record { x = pos 0; y = pos 0; w = 0; h = 0 }
-polyline_reach (a ∷ rest) = rect_of (bounds_of a rest)
-
 -- the colour at each point of the lines
 abbrev pub polyline_sheet : PolylineView → Sheet
-polyline_sheet l = sheet_of (polyline_reach l.points) (λ p. if on_polyline l.points p then Copy l.colour else Skip)
+polyline_sheet l = sheet_of (closed_reach l.points) (λ p. if on_polyline l.points p then Copy l.colour else Skip)
 
 -- a polyline has 2 to 64 points
-pub record IsPolylineCount (n : ℕ) : Type 0 where
-  pub least : 2 ≤ n
-  pub most : n ≤ 64
+abbrev pub IsPolylineCount : ℕ → Type 0
+IsPolylineCount n = IsPointCount 2 n
 
 -- and they are in -4,096 to 4,095
 pub record IsPolyline (points : List Point) : Type 0 where

@@ -1,12 +1,12 @@
 //! Lines and polylines as pictures.
 #![tactic(auto)]
 
+mod columns;
 mod laws;
 mod lines;
 mod polylines;
-mod reaches;
-mod walks;
 
-pub use laws::line_ends;
+pub use laws::{line_ends, line_within, polyline_within};
 pub use lines::Line;
-pub use polylines::{PointStop, Polyline};
+pub use picture_rows::PointStop;
+pub use polylines::Polyline;

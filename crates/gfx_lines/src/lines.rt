@@ -1,8 +1,8 @@
 //! Lines: one colour at the points nearest to a straight line.
 ghost use Rattle.std.specs.Prelude.{◌≡◌};
 
-use crate::reaches::reach;
-use crate::walks::{clear, lay_line};
+use crate::columns::line_columns;
+use picture_rows::{closed_reach, fill_run, span};
 use qws_base::{Ink, Picture, Point, Rect, Rgb};
 use std::marker::Model;
 
@@ -73,11 +73,12 @@ impl Picture for Line {
     ghost sheet = { λ l. line_sheet l };
 
     fn reach(&self) -> Rect {
-        reach(self.from, &[self.to])
+        closed_reach(&[self.from, self.to])
     }
 
     fn row(&self, y: i32, x: i32, out: &mut [Ink]) {
-        clear(out);
-        lay_line(self.from, self.to, self.colour, y, x, out);
+        let (left, count) = line_columns(self.from, self.to, y);
+        let (first, end) = span(left, count, x, out.len());
+        fill_run(first, end, &Ink::Copy { c: self.colour }, out);
     }
 }

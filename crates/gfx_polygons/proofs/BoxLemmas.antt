@@ -7,12 +7,15 @@ use Rattle.std.specs.List.{All}
 use borrow.Author.Tests.{leb-true}
 use Rattle.qws_base.specs.declared.points.Point.{Point}
 use Rattle.qws_base.specs.declared.bounds.Bounds.{Bounds}
-use Rattle.qws_base.specs.Points.{spans, holds}
+use Rattle.qws_base.specs.Points.{holds}
 use Rattle.qws_base.specs.Bounds.{bounds_of}
 use Rattle.qws_base.proofs.BoundsLemmas.{Holds, bounds_first, bounds_rest}
-use Rattle.gfx_polygons.specs.Polygons.{centre, doubled, counts_down, counts, edges_from, ring, is_inside, rect_of}
+use Rattle.qws_base.proofs.Booleans.{never}
+use Rattle.qws_base.proofs.Integers.{le_told, not_le_told, lt_told, not_lt_told}
+use Rattle.picture_rows.specs.Boxes.{half_open_rect}
+use Rattle.picture_rows.proofs.ReachLemmas.{in_half_open}
+use Rattle.gfx_polygons.specs.Polygons.{centre, doubled, counts_down, counts, edges_from, ring, is_inside}
 use Rattle.gfx_polygons.specs.Crossings.{is_right}
-use Rattle.gfx_polygons.proofs.Tests.{never, true_both}
 use Rattle.gfx_polygons.proofs.EdgeLemmas.{leb_from, down_rows, down_test}
 use Rattle.gfx_polygons.proofs.LawLemmas.{flip, odd, inside_is}
 
@@ -118,24 +121,6 @@ none_from b a (c ∷ rest) p o ha hs =
 abbrev is_above : Point → Point → Bool
 is_above p q = int_le q.y p.y
 
-le_of : (a b : ℤ) → int_le a b ≡ true → a ≤ℤ b
-le_of a b h = grind (arith, ints)
-
-lt_of : (a b : ℤ) → int_le a b ≡ false → b <ℤ a
-lt_of a b h = grind (arith, ints)
-
-lt_is : (a b : ℤ) → int_lt a b ≡ true → a <ℤ b
-lt_is a b h = grind (arith, ints)
-
-not_lt : (a b : ℤ) → int_lt a b ≡ false → b ≤ℤ a
-not_lt a b h = grind (arith, ints)
-
-in_span : (low high at : ℤ) → low ≤ℤ at → at <ℤ high → spans low (nat_abs (high -ℤ low)) at ≡ true
-in_span low high at a b = grind (arith, ints)
-
-in_rect : (b : Bounds) (p : Point) → b.left ≤ℤ p.x → p.x <ℤ b.right → b.top ≤ℤ p.y → p.y <ℤ b.bottom → holds (rect_of b) p ≡ true
-in_rect b p l r t d = true_both _ _ (in_span b.left b.right p.x l r) (in_span b.top b.bottom p.y t d)
-
 no_order : (a b y : ℤ) → int_lt a b ≡ false → int_lt b a ≡ false → int_le a y ≡ int_le b y
 no_order a b y e f = grind (arith, ints)
 
@@ -160,16 +145,16 @@ chain false false c = refl
 edge_over : (u l p : Point) → u.x ≤ℤ p.x → l.x ≤ℤ p.x → u.y <ℤ l.y → counts_down u l p ≡ flip (is_above p u) (is_above p l)
 edge_over u l p a b c = by (is_above p u) (is_above p l) refl refl where
   by : (s t : Bool) → is_above p u ≡ s → is_above p l ≡ t → counts_down u l p ≡ flip s t
-  by true true e f = never _ (λ h. absurd (omega (arith, ints, (down_rows u l p h).1, le_of l.y p.y f)))
-  by true false e f = right_down u l p a b (le_of u.y p.y e) (lt_of l.y p.y f)
-  by false true e f = absurd (omega (arith, ints, c, le_of l.y p.y f, lt_of u.y p.y e))
-  by false false e f = never _ (λ h. absurd (omega (arith, ints, (down_rows u l p h).0, lt_of u.y p.y e)))
+  by true true e f = never _ (λ h. absurd (omega (arith, ints, (down_rows u l p h).1, le_told l.y p.y f)))
+  by true false e f = right_down u l p a b (le_told u.y p.y e) (not_le_told l.y p.y f)
+  by false true e f = absurd (omega (arith, ints, c, le_told l.y p.y f, not_le_told u.y p.y e))
+  by false false e f = never _ (λ h. absurd (omega (arith, ints, (down_rows u l p h).0, not_le_told u.y p.y e)))
 
 edge_any : (u l p : Point) → u.x ≤ℤ p.x → l.x ≤ℤ p.x → counts u l p ≡ flip (is_above p u) (is_above p l)
 edge_any u l p a b = by (int_lt u.y l.y) (int_lt l.y u.y) refl refl where
   by : (s t : Bool) → int_lt u.y l.y ≡ s → int_lt l.y u.y ≡ t → cond s (counts_down u l p) (cond t (counts_down l u p) false) ≡ flip (is_above p u) (is_above p l)
-  by true t e f = edge_over u l p a b (lt_is u.y l.y e)
-  by false true e f = edge_over l u p b a (lt_is l.y u.y f) ∙ turned (is_above p l) (is_above p u)
+  by true t e f = edge_over u l p a b (lt_told u.y l.y e)
+  by false true e f = edge_over l u p b a (lt_told l.y u.y f) ∙ turned (is_above p l) (is_above p u)
   by false false e f = none_twice (is_above p u) ∙ ap (flip (is_above p u)) (no_order u.y l.y p.y e f)
 
 -- the last of a point and some more
@@ -215,18 +200,18 @@ none_beyond a rest p (inl o) = inside_is (a ∷ rest) p ∙ none_from (bounds_of
     (All-cons (Holds (bounds_of a rest)) a rest (bounds_first a rest) (bounds_rest a rest))
 none_beyond a rest p (inr o) = inside_is (a ∷ rest) p ∙ none_after a rest p o
 
-where_is : (b : Bounds) (p : Point) → (holds (rect_of b) p ≡ true) ⊎ (IsBefore b p ⊎ (b.right ≤ℤ p.x))
+where_is : (b : Bounds) (p : Point) → (holds (half_open_rect b) p ≡ true) ⊎ (IsBefore b p ⊎ (b.right ≤ℤ p.x))
 where_is b p = rows (int_le b.top p.y) (int_lt p.y b.bottom) (int_le b.left p.x) (int_lt p.x b.right) refl refl refl refl where
-  rows : (t d l r : Bool) → int_le b.top p.y ≡ t → int_lt p.y b.bottom ≡ d → int_le b.left p.x ≡ l → int_lt p.x b.right ≡ r → (holds (rect_of b) p ≡ true) ⊎ (IsBefore b p ⊎ (b.right ≤ℤ p.x))
-  rows false d l r e f g h = inr (inl (record { is = inl (lt_of b.top p.y e) }))
-  rows true false l r e f g h = inr (inl (record { is = inr (inl (not_lt p.y b.bottom f)) }))
-  rows true true false r e f g h = inr (inl (record { is = inr (inr (lt_of b.left p.x g)) }))
-  rows true true true false e f g h = inr (inr (not_lt p.x b.right h))
-  rows true true true true e f g h = inl (in_rect b p (le_of b.left p.x g) (lt_is p.x b.right h) (le_of b.top p.y e) (lt_is p.y b.bottom f))
+  rows : (t d l r : Bool) → int_le b.top p.y ≡ t → int_lt p.y b.bottom ≡ d → int_le b.left p.x ≡ l → int_lt p.x b.right ≡ r → (holds (half_open_rect b) p ≡ true) ⊎ (IsBefore b p ⊎ (b.right ≤ℤ p.x))
+  rows false d l r e f g h = inr (inl (record { is = inl (not_le_told b.top p.y e) }))
+  rows true false l r e f g h = inr (inl (record { is = inr (inl (not_lt_told p.y b.bottom f)) }))
+  rows true true false r e f g h = inr (inl (record { is = inr (inr (not_le_told b.left p.x g)) }))
+  rows true true true false e f g h = inr (inr (not_lt_told p.x b.right h))
+  rows true true true true e f g h = inl (in_half_open b p (le_told b.left p.x g) (lt_told p.x b.right h) (le_told b.top p.y e) (lt_told p.y b.bottom f))
 
-pub inside_within : (a : Point) (rest : List Point) (p : Point) → is_inside (a ∷ rest) p ≡ true → holds (rect_of (bounds_of a rest)) p ≡ true
+pub inside_within : (a : Point) (rest : List Point) (p : Point) → is_inside (a ∷ rest) p ≡ true → holds (half_open_rect (bounds_of a rest)) p ≡ true
 inside_within a rest p t = by (where_is (bounds_of a rest) p) where
-  by : (holds (rect_of (bounds_of a rest)) p ≡ true) ⊎ (IsBefore (bounds_of a rest) p ⊎ ((bounds_of a rest).right ≤ℤ p.x)) → holds (rect_of (bounds_of a rest)) p ≡ true
+  by : (holds (half_open_rect (bounds_of a rest)) p ≡ true) ⊎ (IsBefore (bounds_of a rest) p ⊎ ((bounds_of a rest).right ≤ℤ p.x)) → holds (half_open_rect (bounds_of a rest)) p ≡ true
   by (inl h) = h
   by (inr o) =
       let clash : true ≡ false = sym t ∙ none_beyond a rest p o in

@@ -1,17 +1,22 @@
 -- Where an edge counts in a row.
 use Rattle.std.proofs.Common.{ℕ, suc, ◌≡◌, ◌+◌, ◌-◌, ◌*◌, ◌/◌, ◌<◌, ◌≤◌, ℤ, pos, negsuc, ◌+ℤ◌, ◌-ℤ◌, ◌*ℤ◌, ◌≤ℤ◌, ◌<ℤ◌, int_le, int_lt, nat_le, Bool, true, false, ◌&&◌, cond, refl, sym, ap, ◌∙◌, arith, ◌⊎◌, inl, inr}
 use Rattle.std.proofs.lemmas.Int.{ints}
-use Rattle.std.proofs.lemmas.Bool.{cases_lt}
+use Rattle.std.proofs.lemmas.Bool.{cases_lt, and_parts}
 use Rattle.std.proofs.lemmas.Nat.{div_below, le-div}
 use Rattle.std.proofs.Math.IntN.{*ℤ_comm}
 use borrow.Author.Tests.{leb-true}
 use Rattle.qws_base.specs.declared.points.Point.{Point}
+use Rattle.qws_base.proofs.Booleans.{same_test, never}
+use Rattle.qws_base.proofs.Integers.{lt_test}
 use Rattle.gfx_polygons.specs.Polygons.{doubled, centre, counts_down, counts}
-use Rattle.gfx_polygons.specs.Crossings.{pixel, is_right, IsCrossing}
-use Rattle.gfx_polygons.proofs.Tests.{both_true, true_left, same_test, never}
+use Rattle.gfx_polygons.specs.Crossings.{is_right, IsCrossing}
+use Rattle.picture_rows.specs.Runs.{pixel}
 
 pub leb_from : (a b : ℕ) → a ≤ b → nat_le a b ≡ true
 leb_from a b h = grind arith
+
+true_left : (a b : Bool) → a ≡ true → (a && b) ≡ b
+true_left a b h = ap (λ v. v && b) h
 
 -- ---- products of differences
 
@@ -62,11 +67,11 @@ right_test s u l p U L P d t eu el ep ed et =
     (λ h. leb_from _ _ (omega (arith, leb-true (2 * U * (2 * d) + 2 * L * t) ((2 * P + 1) * (2 * d) + 2 * U * t) h)))
     (λ h. leb_from _ _ (omega (arith, leb-true (2 * U * d + t * L) (2 * P * d + d + t * U) h)))
 
-le_test : (a b : ℤ) → a ≤ℤ b → int_le (doubled a) (centre b) ≡ true
-le_test a b h = grind (arith, ints)
+upper_test : (a b : ℤ) → a ≤ℤ b → int_le (doubled a) (centre b) ≡ true
+upper_test a b h = grind (arith, ints)
 
-lt_test : (a b : ℤ) → a <ℤ b → int_lt (centre a) (doubled b) ≡ true
-lt_test a b h = grind (arith, ints)
+lower_test : (a b : ℤ) → a <ℤ b → int_lt (centre a) (doubled b) ≡ true
+lower_test a b h = grind (arith, ints)
 
 le_back : (a b : ℤ) → int_le (doubled a) (centre b) ≡ true → a ≤ℤ b
 le_back a b h = grind (arith, ints)
@@ -77,16 +82,10 @@ lt_back a b h = grind (arith, ints)
 pub down_test : (s : ℕ) (u l p : Point) (U L P d t : ℕ) → u.y ≤ℤ p.y → p.y <ℤ l.y → pos U ≡ u.x +ℤ pos s → pos L ≡ l.x +ℤ pos s → pos P ≡ p.x +ℤ pos s → pos d ≡ l.y -ℤ u.y
     → pos t ≡ centre p.y -ℤ doubled u.y → counts_down u l p ≡ is_right U L d t P
 down_test s u l p U L P d t a b eu el ep ed et =
-    true_left _ _ (le_test u.y p.y a) ∙ true_left _ _ (lt_test p.y l.y b) ∙ right_test s u l p U L P d t eu el ep ed et
-
-is_lt : (a b : ℤ) → a <ℤ b → int_lt a b ≡ true
-is_lt a b h = grind (arith, ints)
-
-is_not_lt : (a b : ℤ) → b ≤ℤ a → int_lt a b ≡ false
-is_not_lt a b h = grind (arith, ints)
+    true_left _ _ (upper_test u.y p.y a) ∙ true_left _ _ (lower_test p.y l.y b) ∙ right_test s u l p U L P d t eu el ep ed et
 
 pub counts_first : (a b p : Point) → a.y <ℤ b.y → counts a b p ≡ counts_down a b p
-counts_first a b p h = ap (λ t. cond t (counts_down a b p) (cond (int_lt b.y a.y) (counts_down b a p) false)) (is_lt a.y b.y h)
+counts_first a b p h = ap (λ t. cond t (counts_down a b p) (cond (int_lt b.y a.y) (counts_down b a p) false)) (lt_test a.y b.y h)
 
 both_less : (x y : ℤ) → int_lt x y ≡ true → int_lt y x ≡ true → ⊥
 both_less x y e f = grind (arith, ints)
@@ -102,8 +101,8 @@ counts_turned a b p = by (int_lt a.y b.y) (int_lt b.y a.y) refl refl where
 
 pub down_rows : (u l p : Point) → counts_down u l p ≡ true → (u.y ≤ℤ p.y) × (p.y <ℤ l.y)
 down_rows u l p h =
-    let first = both_true (int_le (doubled u.y) (centre p.y)) _ h in
-    let second = both_true (int_lt (centre p.y) (doubled l.y)) _ first.1 in
+    let first = and_parts (int_le (doubled u.y) (centre p.y)) _ h in
+    let second = and_parts (int_lt (centre p.y) (doubled l.y)) _ first.1 in
     (le_back u.y p.y first.0, lt_back p.y l.y second.0)
 
 spans_test : (a b y : ℤ) → a ≤ℤ y → y <ℤ b → (int_le a y && int_lt y b) ≡ true

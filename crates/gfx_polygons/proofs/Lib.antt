@@ -1,6 +1,4 @@
-pub mod Tests
 pub mod EdgeLemmas
 pub mod PlaceLemmas
 pub mod LawLemmas
 pub mod BoxLemmas
-pub mod RowLemmas

@@ -1,18 +1,25 @@
 -- Places at which edges begin to count.
-use Rattle.std.proofs.Common.{ℕ, zero, suc, ◌≡◌, ◌==◌, ◌&&◌, ◌+◌, ◌-◌, ◌<◌, ◌≤◌, ◌%◌, ℤ, nat_le, Bool, true, false, cond, List, [], ◌∷◌, ◌++◌, length, take, set, get_or, length-append, add-one, length-set, get_or-set_same, get_or-set_other, refl, sym, ap, subst, ◌∙◌, arith, ◌⊎◌, inl, inr}
-use Rattle.std.proofs.lemmas.List.{take_all, take_more_set, get_or_default}
+use Rattle.std.proofs.Common.{ℕ, zero, suc, ◌≡◌, ◌==◌, ◌+◌, ◌-◌, ◌<◌, ◌≤◌, ◌%◌, ℤ, nat_le, min, Bool, true, false, cond, List, [], ◌∷◌, ◌++◌, length, take, get_or, length-append, add-one, refl, sym, ap, subst, ◌∙◌, arith, ◌⊎◌, inl, inr}
+use Rattle.std.proofs.lemmas.List.{take_all, get_or_default}
 use Rattle.std.proofs.lemmas.List.Elements.{filter-append}
 use Rattle.std.proofs.lemmas.List.Sums.{length-filter}
 use Rattle.std.proofs.lemmas.List.Sorted.{sum_by-IsPermutation}
-use Rattle.std.proofs.lemmas.Bool.{cases_lt, cases_eq}
+use Rattle.std.proofs.lemmas.Bool.{cases_lt}
 use Rattle.std.specs.List.{filter}
 use Rattle.std.specs.List.Sorted.{IsPermutation, IsNonDecreasing}
 use borrow.Author.Tests.{leb-true}
 use Rattle.qws_base.specs.declared.points.Point.{Point}
 use Rattle.qws_base.specs.declared.inks.Ink.{Ink}
 use Rattle.qws_base.specs.declared.inks.Ink.TheVariants.{Skip}
-use Rattle.gfx_polygons.specs.Polygons.{counts, edges_from, ring, counted}
-use Rattle.gfx_polygons.specs.Crossings.{pixel, passed, IsCrossing, AreCrossings, IsFilled}
+use Rattle.qws_base.specs.Points.{holds}
+use Rattle.qws_base.specs.Sheets.{row_of}
+use Rattle.picture_rows.specs.Boxes.{half_open_reach}
+use Rattle.picture_rows.specs.Runs.{pixel, in_run, IsInked}
+use Rattle.picture_rows.proofs.RunLemmas.{run_before, run_inside}
+use Rattle.picture_rows.proofs.RowLemmas.{inked_as, row_of_test}
+use Rattle.gfx_polygons.specs.Polygons.{counts, edges_from, ring, counted, is_inside, PolygonView, polygon_sheet}
+use Rattle.gfx_polygons.specs.Crossings.{passed, IsCrossing, AreCrossings}
+use Rattle.gfx_polygons.proofs.BoxLemmas.{inside_within}
 
 -- ---- one more of a list
 
@@ -25,17 +32,8 @@ length_one f x = by (f x) where
 filter_push : {X : Type 0} (f : X → Bool) (xs : List X) (x : X) → length (filter f (xs ++ x ∷ [])) ≡ length (filter f xs) + cond (f x) 1 0
 filter_push f xs x = ap length (filter-append f xs (x ∷ [])) ∙ length-append (filter f xs) (filter f (x ∷ [])) ∙ ap (λ n. length (filter f xs) + n) (length_one f x)
 
-pub passed_push : (places : List ℕ) (place k : ℕ) → passed (places ++ place ∷ []) k ≡ passed places k + cond (nat_le place k) 1 0
-passed_push places place k = filter_push (λ v. nat_le v k) places place
-
 pub counted_push : (edges : List (Point × Point)) (e : Point × Point) (p : Point) → counted (edges ++ e ∷ []) p ≡ counted edges p + cond (counts e.0 e.1 p) 1 0
 counted_push edges e p = filter_push (λ f. counts f.0 f.1 p) edges e
-
-pub noted : (places : List ℕ) (count place k : ℕ) → count < length places → passed (take (count + 1) (set places count place)) k ≡ passed (take count places) k + cond (nat_le place k) 1 0
-noted places count place k h = ap (λ l. passed l k) (take_more_set places count place h) ∙ passed_push (take count places) place k
-
-pub not_noted : (m place n k : ℕ) → n ≤ place → k < n → m ≡ m + cond (nat_le place k) 1 0
-not_noted m place n k h g = grind arith
 
 -- ---- the edges of a ring, one after another
 
@@ -113,47 +111,66 @@ passed_permuted ps qs j h = length-filter (λ v. nat_le v j) qs ∙ sum_by-IsPer
 
 -- ---- a row filled between places
 
-behind : (k first : ℕ) → first ≤ k → nat_le (k + 1) first ≡ false
-behind k first h = grind arith
+-- the first i places are passed, and the row is filled up to a place
+pub record IsFilledTo (places : List ℕ) (ink : Ink) (i at n : ℕ) (out : List Ink) : Type 0 where
+  pub same_length : length out ≡ n
+  pub within : at ≤ n
+  pub next : i < length places → at ≤ get_or places i 0
+  pub gone : (j k : ℕ) → j < i → at ≤ k → k < n → get_or places j 0 ≤ k
+  pub inked : (k : ℕ) → k < at → get_or out k Skip ≡ cond (passed places k % 2 == 1) ink Skip
 
-in_part : (first k end : ℕ) → first ≤ k → k + 1 ≤ end → (nat_le first k && nat_le (k + 1) end) ≡ true
-in_part first k end h g = grind arith
-
-same_end : (k j : ℕ) → (k ≡ j → ⊥) → nat_le (k + 1) j ≡ nat_le (k + 1) (j + 1)
-same_end k j e = by (cases_lt k j) where
-  by : (k < j) ⊎ (j ≤ k) → nat_le (k + 1) j ≡ nat_le (k + 1) (j + 1)
-  by (inl h) = grind arith
-  by (inr h) = by_above (cases_eq k j) where
-    by_above : (k ≡ j) ⊎ (k ≡ j → ⊥) → nat_le (k + 1) j ≡ nat_le (k + 1) (j + 1)
-    by_above (inl f) = absurd (e f)
-    by_above (inr f) = grind arith
-
-pub filled_none : (places : List ℕ) (ink : Ink) (first : ℕ) (was : List Ink) → IsFilled places ink first first was was
-filled_none places ink first was = record { same_length = refl; at = λ k below. by k (nat_le first k) refl } where
-  by : (k : ℕ) (b : Bool) → nat_le first k ≡ b → get_or was k Skip ≡ cond (b && nat_le (k + 1) first) (cond (passed places k % 2 == 1) ink Skip) (get_or was k Skip)
-  by k true e = sym (ap (λ t. cond t (cond (passed places k % 2 == 1) ink Skip) (get_or was k Skip)) (behind k first (leb-true first k e)))
-  by k false e = refl
-
-pub filled_more : (places : List ℕ) (ink new : Ink) (first j : ℕ) (was now : List Ink) → first ≤ j → j < length now → new ≡ cond (passed places j % 2 == 1) ink Skip
-    → IsFilled places ink first j was now → IsFilled places ink first (j + 1) was (set now j new)
-filled_more places ink new first j was now h within v filled = record {
-  same_length = length-set now j new ∙ filled.same_length;
-  at = λ k below. by k below (cases_eq k j);
-} where
-  by : (k : ℕ) → k < length was → (k ≡ j) ⊎ (k ≡ j → ⊥) → get_or (set now j new) k Skip ≡ cond (nat_le first k && nat_le (k + 1) (j + 1)) (cond (passed places k % 2 == 1) ink Skip) (get_or was k Skip)
-  by k below (inl e) =
-      ap (λ i. get_or (set now j new) i Skip) e
-      ∙ get_or-set_same now j new Skip within
-      ∙ v
-      ∙ ap (λ i. cond (passed places i % 2 == 1) ink Skip) (sym e)
-      ∙ ap (λ t. cond t (cond (passed places k % 2 == 1) ink Skip) (get_or was k Skip)) (sym (in_part first k (j + 1) (omega arith) (omega arith)))
-  by k below (inr e) =
-      get_or-set_other now j k new Skip e
-      ∙ filled.at k below
-      ∙ ap (λ t. cond (nat_le first k && t) (cond (passed places k % 2 == 1) ink Skip) (get_or was k Skip)) (same_end k j e)
-
-pub filled_permuted : (ps qs : List ℕ) (ink : Ink) (first end : ℕ) (was now : List Ink) → IsPermutation ps qs → IsFilled qs ink first end was now → IsFilled ps ink first end was now
-filled_permuted ps qs ink first end was now h filled = record {
-  same_length = filled.same_length;
-  at = λ k below. filled.at k below ∙ ap (λ m. cond (nat_le first k && nat_le (k + 1) end) (cond (m % 2 == 1) ink Skip) (get_or was k Skip)) (passed_permuted ps qs k h);
+pub filled_none : (places : List ℕ) (ink : Ink) (n : ℕ) (out : List Ink) → length out ≡ n → IsFilledTo places ink 0 0 n out
+filled_none places ink n out e = record {
+  same_length = e;
+  within = omega arith;
+  next = λ h. omega arith;
+  gone = λ j k h. absurd (omega arith);
+  inked = λ k h. absurd (omega arith);
 }
+
+-- the ink laid up to the next place
+inked_to : (places : List ℕ) (ink new : Ink) (i at to n : ℕ) (was now : List Ink) → IsNonDecreasing places → i ≤ length places → to ≤ n → (i < length places → to ≤ get_or places i 0)
+    → new ≡ cond (i % 2 == 1) ink Skip → IsFilledTo places ink i at n was → IsInked (length was) (λ k. cond (in_run at to k) new (get_or was k Skip)) now
+    → (k : ℕ) → k < to → get_or now k Skip ≡ cond (passed places k % 2 == 1) ink Skip
+inked_to places ink new i at to n was now up few end h v f l k below = l.at k (omega (arith, f.same_length)) ∙ by (cases_lt k at) where
+  by : (k < at) ⊎ (at ≤ k) → cond (in_run at to k) new (get_or was k Skip) ≡ cond (passed places k % 2 == 1) ink Skip
+  by (inl a) = ap (λ t. cond t new (get_or was k Skip)) (run_before at to k a) ∙ f.inked k a
+  by (inr a) =
+      ap (λ t. cond t new (get_or was k Skip)) (run_inside at to k a below)
+      ∙ v
+      ∙ ap (λ m. cond (m % 2 == 1) ink Skip) (sym (passed_sorted places i k up few (λ j b. f.gone j k b a (omega arith)) (λ b. omega (arith, h b))))
+
+pub filled_more : (places : List ℕ) (ink new : Ink) (i at to n : ℕ) (was now : List Ink) → IsNonDecreasing places → i < length places → to ≡ min n (get_or places i 0)
+    → new ≡ cond (i % 2 == 1) ink Skip → IsFilledTo places ink i at n was → IsInked (length was) (λ k. cond (in_run at to k) new (get_or was k Skip)) now → IsFilledTo places ink (i + 1) to n now
+filled_more places ink new i at to n was now up h e v f l = record {
+  same_length = l.same_length ∙ f.same_length;
+  within = omega arith;
+  next = λ b. omega (arith, up i (i + 1) 0 (omega arith) b);
+  gone = λ j k b a g. by j k a g (cases_lt j i) b;
+  inked = inked_to places ink new i at to n was now up (omega arith) (omega arith) (λ b. omega arith) v f l;
+} where
+  by : (j k : ℕ) → to ≤ k → k < n → (j < i) ⊎ (i ≤ j) → j < i + 1 → get_or places j 0 ≤ k
+  by j k a g (inl b) c = f.gone j k b (omega (arith, f.within, f.next h)) g
+  by j k a g (inr b) c = let same : j ≡ i = omega arith in rw same (omega arith)
+
+pub filled_end : (places : List ℕ) (ink new : Ink) (i at n : ℕ) (was now : List Ink) → IsNonDecreasing places → i ≡ length places → new ≡ cond (length places % 2 == 1) ink Skip
+    → IsFilledTo places ink i at n was → IsInked (length was) (λ k. cond (in_run at n k) new (get_or was k Skip)) now → IsInked n (λ k. cond (passed places k % 2 == 1) ink Skip) now
+filled_end places ink new i at n was now up e v f l = record {
+  same_length = l.same_length ∙ f.same_length;
+  at = inked_to places ink new i at n n was now up (omega arith) (omega arith) (λ b. absurd (omega arith)) (v ∙ ap (λ m. cond (m % 2 == 1) ink Skip) (sym e)) f l;
+}
+
+pub filled_permuted : (ps qs : List ℕ) (ink : Ink) (n : ℕ) (out : List Ink) → IsPermutation ps qs → IsInked n (λ k. cond (passed qs k % 2 == 1) ink Skip) out → IsInked n (λ k. cond (passed ps k % 2 == 1) ink Skip) out
+filled_permuted ps qs ink n out h = inked_as n _ _ out (λ k below. ap (λ m. cond (m % 2 == 1) ink Skip) (passed_permuted ps qs k h))
+
+-- ---- the row
+
+within_reach : (ps : List Point) (p : Point) → is_inside ps p ≡ true → holds (half_open_reach ps) p ≡ true
+within_reach [] p t = cc
+within_reach (a ∷ rest) p t = inside_within a rest p t
+
+pub row_of_crossings : (v : PolygonView) (y x : ℤ) (n : ℕ) (places : List ℕ) (out : List Ink) → AreCrossings (ring v.points) y x n places → IsInked n (λ k. cond (passed places k % 2 == 1) v.ink Skip) out
+    → out ≡ row_of (polygon_sheet v) y x n
+row_of_crossings v y x n places out are i =
+    row_of_test (half_open_reach v.points) (is_inside v.points) v.ink y x n out (within_reach v.points)
+    (inked_as n _ _ out (λ k below. ap (λ m. cond (m % 2 == 1) v.ink Skip) (sym (are.at k below))) i)

@@ -1,14 +1,13 @@
 -- What a polygon shows: the points inside its ring.
-use Rattle.std.specs.Prelude.{ℕ, ◌%◌, ◌==◌, ◌≤◌, ℤ, pos, ◌+ℤ◌, ◌-ℤ◌, ◌*ℤ◌, int_le, int_lt, nat_abs, Bool, false, ◌&&◌, List, [], ◌∷◌, length, slice_index_or, if◌then◌else◌}
+use Rattle.std.specs.Prelude.{ℕ, ◌%◌, ◌==◌, ℤ, pos, ◌+ℤ◌, ◌-ℤ◌, ◌*ℤ◌, int_le, int_lt, Bool, false, ◌&&◌, List, [], ◌∷◌, length, slice_index_or, if◌then◌else◌}
 use Rattle.std.specs.List.{All, filter}
 use Rattle.qws_base.specs.declared.points.Point.{Point}
-use Rattle.qws_base.specs.declared.points.Rect.{Rect}
 use Rattle.qws_base.specs.declared.inks.Ink.{Ink}
 use Rattle.qws_base.specs.declared.inks.Ink.TheVariants.{Skip}
 use Rattle.qws_base.specs.Points.{IsPlaced}
 use Rattle.qws_base.specs.Sheets.{Sheet, sheet_of}
-use Rattle.qws_base.specs.declared.bounds.Bounds.{Bounds}
-use Rattle.qws_base.specs.Bounds.{bounds_of}
+use Rattle.picture_rows.specs.Boxes.{half_open_reach}
+use Rattle.picture_rows.specs.Counts.{IsPointCount}
 
 -- ---- the rule: in half pixels a vertex lies at doubled coordinates, and a point's centre half a pixel further
 
@@ -46,16 +45,6 @@ counted edges p = length (filter (λ e. counts e.0 e.1 p) edges)
 abbrev pub is_inside : List Point → Point → Bool
 is_inside points p = counted (ring points) p % 2 == 1
 
--- ---- the rectangle of its points
-
--- the pixels between the outermost vertices
-abbrev pub rect_of : Bounds → Rect
-rect_of b = record { x = b.left; y = b.top; w = nat_abs (b.right -ℤ b.left); h = nat_abs (b.bottom -ℤ b.top) }
-
-abbrev pub polygon_reach : List Point → Rect
-polygon_reach [] = record { x = pos 0; y = pos 0; w = 0; h = 0 }
-polygon_reach (a ∷ rest) = rect_of (bounds_of a rest)
-
 -- ---- the polygon
 
 -- a polygon is seen as its points and its ink
@@ -65,12 +54,11 @@ pub record PolygonView : Type 0 where
 
 -- the ink at each point inside
 abbrev pub polygon_sheet : PolygonView → Sheet
-polygon_sheet v = sheet_of (polygon_reach v.points) (λ p. if is_inside v.points p then v.ink else Skip)
+polygon_sheet v = sheet_of (half_open_reach v.points) (λ p. if is_inside v.points p then v.ink else Skip)
 
 -- a polygon has 3 to 64 points
-pub record IsPolygonCount (n : ℕ) : Type 0 where
-  pub least : 3 ≤ n
-  pub most : n ≤ 64
+abbrev pub IsPolygonCount : ℕ → Type 0
+IsPolygonCount n = IsPointCount 3 n
 
 -- and they are in -4,096 to 4,095
 pub record IsPolygon (points : List Point) : Type 0 where

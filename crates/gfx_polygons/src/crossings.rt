@@ -1,21 +1,23 @@
 //! Rows of a polygon, by the places where its edges cross them.
-ghost use Rattle.std.specs.Prelude.{◌≡◌, ℕ, ◌+◌, ◌*◌, ◌<◌, ◌≤◌, ◌+ℤ◌, ◌-ℤ◌, ◌≤ℤ◌, ◌<ℤ◌, pos, negsuc, nat_le, int_le, int_lt, ◌&&◌, length, take, slice_index, ◌%◌, ◌==◌, if◌then◌else◌};
+ghost use Rattle.std.specs.Prelude.{◌≡◌, ℕ, ◌+◌, ◌*◌, ◌<◌, ◌≤◌, ◌+ℤ◌, ◌-ℤ◌, ◌≤ℤ◌, ◌<ℤ◌, pos, negsuc, nat_le, int_le, int_lt, ◌&&◌, length, take, ◌%◌, ◌==◌, if◌then◌else◌};
 ghost use Rattle.std.specs.List.{All};
 ghost use Rattle.std.specs.List.Sorted.{IsNonDecreasing};
 ghost use Rattle.qws_base.specs.Points.{IsPlaced};
 ghost use Rattle.qws_base.specs.Sheets.{IsRow};
 ghost use Rattle.qws_base.specs.declared.inks.Ink.TheVariants.{Skip};
+ghost use Rattle.picture_rows.specs.Runs.{IsInked};
 ghost use Rattle.gfx_polygons.specs.Polygons.{ring};
-ghost use Rattle.gfx_polygons.specs.Crossings.{is_right, passed, IsCrossing, AreCrossings, IsFilled};
+ghost use Rattle.gfx_polygons.specs.Crossings.{is_right, passed, IsCrossing, AreCrossings};
 
+use picture_rows::lay;
 use qws_base::{Ink, Point};
 
 // A coordinate from the least one of a row on, so that it is not negative.
 fn shifted(c: i32) -> u64
     requires low { negsuc 8191 ≤ℤ c }
-    requires high { c ≤ℤ pos 8191 }
+    requires high { c ≤ℤ pos 8192 }
     ensures value { pos result ≡ (c +ℤ pos 8192) }
-    ensures range { result < 16384 }
+    ensures range { result ≤ 16384 }
 {
     (i64::from(c) + 8192) as u64
 }
@@ -34,9 +36,9 @@ fn distance(from: i32, to: i32) -> u64
 // The first of the places from x on that is not left of an edge, in shifted coordinates: u and l of its upper and lower
 // end, over d rows, in the t-th half row.
 fn first_right(u: u64, l: u64, x: u64, d: u64, t: u64) -> u64
-    requires upper { u < 16384 }
-    requires lower { l < 16384 }
-    requires start { x < 16384 }
+    requires upper { u ≤ 16384 }
+    requires lower { l ≤ 16384 }
+    requires start { x ≤ 16384 }
     requires rows { d < 16384 }
     requires some { 0 < d }
     requires half { t < 32768 }
@@ -56,7 +58,6 @@ fn place_of(upper: Point, lower: Point, y: i32, x: i32, n: usize) -> u64
     requires upper { IsPlaced upper }
     requires lower { IsPlaced lower }
     requires row { IsRow y x n }
-    requires some { x ≤ℤ pos 8191 }
     requires from { upper.y ≤ℤ y }
     requires to { y <ℤ lower.y }
     ensures { IsCrossing upper lower y x n result }
@@ -82,7 +83,6 @@ fn crossing(a: Point, b: Point, y: i32, x: i32, n: usize) -> u64
     requires a { IsPlaced a }
     requires b { IsPlaced b }
     requires row { IsRow y x n }
-    requires some { x ≤ℤ pos 8191 }
     ensures { IsCrossing a b y x n result }
 {
     if is_in_rows(a, b, y) {
@@ -115,7 +115,6 @@ pub(crate) fn crossings(points: &[Point], y: i32, x: i32, n: usize, places: &mut
     requires placed { All IsPlaced points.now }
     requires room { length points.now ≤ length places.old }
     requires row { IsRow y x n }
-    requires any { x ≤ℤ pos 8191 }
     ensures within { result ≤ length points.now }
     ensures are { AreCrossings (ring points.now) y x n (take result places.new) }
 {
@@ -129,23 +128,6 @@ pub(crate) fn crossings(points: &[Point], y: i32, x: i32, n: usize, places: &mut
     count
 }
 
-// How many of some sorted places are j or less, where the first `from` of them are.
-fn pass(places: &[u64], from: usize, j: u64) -> usize
-    requires sorted { IsNonDecreasing places.now }
-    requires within { from ≤ length places.now }
-    requires so_far { (k : ℕ) → k < from → slice_index places.now k ≤ j }
-    ensures within { result ≤ length places.now }
-    ensures so_far { (k : ℕ) → k < result → slice_index places.now k ≤ j }
-    ensures passed { result ≡ passed places.now j }
-{
-    for count in from..places.len() {
-        if places[count] > j {
-            return count;
-        }
-    }
-    places.len()
-}
-
 // The ink after an odd number of places.
 fn ink_after(count: usize, ink: &Ink) -> Ink
     ensures { result ≡ (if count % 2 == 1 then ink.now else Skip) }
@@ -153,26 +135,25 @@ fn ink_after(count: usize, ink: &Ink) -> Ink
     if count % 2 == 1 { *ink } else { Ink::Skip }
 }
 
-// Fills a part of a row between sorted places.
-fn fill_sorted(places: &[u64], ink: &Ink, first: usize, end: usize, out: &mut [Ink])
-    requires sorted { IsNonDecreasing places.now }
-    requires ordered { first ≤ end }
-    requires within { end ≤ length out.old }
-    ensures { IsFilled places.now ink.now first end out.old out.new }
+// Fills a row between sorted places.
+fn fill_sorted(places: &[u64], ink: &Ink, out: &mut [Ink])
+    requires { IsNonDecreasing places.now }
+    ensures { IsInked (length out.old) (λ k. if passed places.now k % 2 == 1 then ink.now else Skip) out.new }
 {
-    let mut count = 0;
-    for j in first..end {
-        count = pass(places, count, j as u64);
-        out[j] = ink_after(count, ink);
+    let end = out.len();
+    let mut at = 0;
+    for i in 0..places.len() {
+        let place = end.min(places[i] as usize);
+        lay(at, place, &ink_after(i, ink), out);
+        at = place;
     }
+    lay(at, end, &ink_after(places.len(), ink), out);
 }
 
-/// Sorts places, and fills a part of a row with the ink after an odd number of them, and with Skip after an even one.
-pub(crate) fn fill_between(places: &mut [u64], ink: &Ink, first: usize, end: usize, out: &mut [Ink])
-    requires ordered { first ≤ end }
-    requires within { end ≤ length out.old }
-    ensures { IsFilled places.old ink.now first end out.old out.new }
+/// Sorts places, and fills a row with the ink after an odd number of them, and with Skip after an even one.
+pub(crate) fn fill_between(places: &mut [u64], ink: &Ink, out: &mut [Ink])
+    ensures { IsInked (length out.old) (λ k. if passed places.old k % 2 == 1 then ink.now else Skip) out.new }
 {
     places.sort_unstable();
-    fill_sorted(places, ink, first, end, out);
+    fill_sorted(places, ink, out);
 }

@@ -1,8 +1,8 @@
 //! Laws of the definitions. Each function does nothing; its clause is the law.
 ghost use Rattle.std.specs.Prelude.{◌≡◌, [], ◌∷◌, not, if◌then◌else◌, IsTrue};
 ghost use Rattle.qws_base.specs.Points.{holds};
-ghost use Rattle.qws_base.specs.Bounds.{bounds_of};
-ghost use Rattle.gfx_polygons.specs.Polygons.{is_inside, rect_of};
+ghost use Rattle.picture_rows.specs.Boxes.{half_open_reach};
+ghost use Rattle.gfx_polygons.specs.Polygons.{is_inside};
 
 use qws_base::Point;
 
@@ -16,7 +16,7 @@ pub fn two_triangles(a: Point, b: Point, c: Point, d: Point, p: Point)
 
 /// Each point inside a ring lies in the rectangle between its outermost vertices, the outermost column and row at the right and at the bottom not among it.
 pub fn inside_within(first: Point, rest: &[Point], p: Point)
-    ensures { IsTrue (is_inside (first ∷ rest.now) p) → IsTrue (holds (rect_of (bounds_of first rest.now)) p) }
+    ensures { IsTrue (is_inside (first ∷ rest.now) p) → IsTrue (holds (half_open_reach (first ∷ rest.now)) p) }
 {
     let _ = (first, rest.len(), p);
 }

@@ -4,8 +4,7 @@
 mod crossings;
 mod laws;
 mod polygons;
-mod reaches;
-mod rows;
 
 pub use laws::{inside_within, two_triangles};
-pub use polygons::{PointStop, Polygon};
+pub use picture_rows::PointStop;
+pub use polygons::Polygon;

@@ -1,3 +1,4 @@
 pub mod BitLemmas
 pub mod CellLemmas
 pub mod SpellLemmas
+pub mod FontLemmas

@@ -1,5 +1,5 @@
 -- A row of a text by its columns.
-use Rattle.std.specs.Prelude.{ℕ, ◌-◌, ◌+◌, nat_lt, ℤ, pos, negsuc, ◌+ℤ◌, Bool, false, List, [], ◌∷◌, map, slice_index, if◌then◌else◌}
+use Rattle.std.specs.Prelude.{ℕ, ◌-◌, ◌+◌, nat_lt, ℤ, pos, negsuc, Bool, false, List, [], ◌∷◌, map, slice_index, if◌then◌else◌}
 use Rattle.std.specs.List.{range_with_len}
 use Rattle.qws_base.specs.declared.inks.Ink.{Ink}
 use Rattle.qws_base.specs.declared.inks.Ink.TheVariants.{Skip}
@@ -26,7 +26,3 @@ glyph_inks ink width row first n = map (λ j. bit_ink ink (column_bit width row 
 -- the inks of n columns of a row of glyphs side by side
 abbrev pub text_inks : Ink → List GlyphView → ℕ → ℕ → ℕ → List Ink
 text_inks ink glyphs row first n = map (λ j. bit_ink ink (text_bit glyphs row (first + j))) (range_with_len 0 n)
-
--- the same from a column that may be before the first
-abbrev pub row_inks : Ink → List GlyphView → ℕ → ℤ → ℕ → List Ink
-row_inks ink glyphs row left n = map (λ j. bit_ink ink (bit_at glyphs row (left +ℤ pos j))) (range_with_len 0 n)

@@ -1,3 +1,4 @@
 pub mod Glyphs
 pub mod Texts
 pub mod Columns
+pub mod Places

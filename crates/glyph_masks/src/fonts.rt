@@ -1,9 +1,10 @@
 //! Fonts: glyphs of one height, found by their codes.
-ghost use Rattle.std.specs.Prelude.{◌≡◌, ◌<◌, ◌≤◌, ◌++◌, ◌∷◌, [], ◌↔◌, ◌⊎◌, ◌^◌, length, IsTrue, OnOk, OnErr, IfOk, IfErr, map, option_map};
+ghost use Rattle.std.specs.Prelude.{◌≡◌, ◌<◌, ◌≤◌, ◌++◌, ◌∷◌, [], ◌↔◌, ◌⊎◌, ◌^◌, false, length, IsTrue, OnOk, OnErr, IfOk, IfErr, map, option_map};
 ghost use Rattle.std.specs.List.{All};
 ghost use Rattle.glyph_masks.specs.Glyphs.{IsGlyph, has_code, glyph_of};
 ghost use Rattle.glyph_masks.specs.Texts.{first_missing, spelled};
 
+use indexmap::IndexMap;
 use std::alloc::{AllocError, Global};
 use std::marker::Model;
 
@@ -37,12 +38,6 @@ impl Model for Glyph {
 }
 
 impl Glyph {
-    fn code(&self) -> u32
-        ensures { result ≡ self.now.code }
-    {
-        self.code
-    }
-
     /// The number of columns.
     pub(crate) fn width(&self) -> u32
         ensures value { result ≡ self.now.width }
@@ -70,25 +65,27 @@ fn is_glyph(height: u32, width: u32, rows: &[u32]) -> bool
         && rows.iter().all(|row| u64::from(*row) < 1 << width)
 }
 
-/// Glyphs of one height, each with a code of its own. Contracts see the height and the glyphs in the order in which they
-/// were added.
+/// Glyphs of one height, each with a code of its own, by which it is found without going through the others. Contracts see
+/// the height and the glyphs in the order in which they were added.
 #[derive(Debug, Drop)]
 pub struct Font {
     alloc: Global,
     height: u32,
-    glyphs: Vec<Glyph>,
+    glyphs: IndexMap<u32, Glyph>,
 }
 
 impl Model for Font {
     ghost use Rattle.std.specs.Prelude.{◌≡◌, ◌<◌, ◌≤◌, length};
     ghost use Rattle.std.specs.List.{All};
+    ghost use Rattle.indexmap.specs.IndexMap.{values};
     ghost use Rattle.glyph_masks.specs.Glyphs.{FontView};
+    ghost use Rattle.glyph_masks.specs.Places.{AreFound};
 
     ghost Value = { FontView };
 
-    ghost view = { λ f. record { height = f.height; glyphs = f.glyphs.items } };
+    ghost view = { λ f. record { height = f.height; glyphs = values f.glyphs } };
 
-    ghost invariant = { λ f. (0 < f.height) × (f.height ≤ 32) × All (λ g. length g.rows ≡ f.height) f.glyphs.items };
+    ghost invariant = { λ f. (0 < f.height) × (f.height ≤ 32) × All (λ g. length g.rows ≡ f.height) (values f.glyphs) × AreFound f.glyphs.entries };
 }
 
 impl Font {
@@ -101,7 +98,7 @@ impl Font {
         Font {
             alloc,
             height,
-            glyphs: Vec::new(alloc),
+            glyphs: IndexMap::new(alloc),
         }
     }
 
@@ -115,18 +112,18 @@ impl Font {
         self.height
     }
 
-    // Whether the font has a glyph of that code.
-    fn has(&self, code: u32) -> bool
+    /// Whether the font has a glyph of that code.
+    pub fn has(&self, code: u32) -> bool
         ensures { result ≡ has_code self.now code }
     {
-        self.glyphs.iter().any(|g| g.code() == code)
+        self.glyphs.contains_key(&code)
     }
 
     // The glyph of a code.
     fn glyph(&self, code: u32) -> Option<&Glyph>
         ensures found { option_map (λ g. g.now) result ≡ glyph_of self.now code }
     {
-        self.glyphs.iter().find(|g| g.code() == code)
+        self.glyphs.get(&code)
     }
 
     /// The first code of which the font has no glyph.
@@ -150,11 +147,12 @@ impl Font {
     }
 
     /// Adds a glyph of 1 to 32 columns with a row of bits for each row of the font, from the top. The leftmost column is the
-    /// bit `width - 1`.
+    /// bit `width - 1`. An Ok tells that the glyph is good and its code new.
     pub fn add(&mut self, code: u32, width: u32, rows: &[u32]) -> Result<(), GlyphStop>
         ensures added { OnOk result (self.new ≡ record self.old { glyphs = self.old.glyphs ++ record { code = code; width = width; rows = rows.now } ∷ [] }) }
         ensures unchanged { OnErr result (self.new ≡ self.old) }
-
+        ensures good { OnOk result (IsGlyph self.old.height width rows.now) }
+        ensures new_code { OnOk result (has_code self.old code ≡ false) }
         ensures bad_glyph { (result ≡ Err (GlyphStop.BadGlyph code)) ↔ ¬ IsGlyph self.old.height width rows.now }
         ensures repeated { (result ≡ Err (GlyphStop.Repeated code)) ↔ IsGlyph self.old.height width rows.now × IsTrue (has_code self.old code) }
         ensures no_other { IfErr result (λ stop. (stop ≡ GlyphStop.BadGlyph code) ⊎ ((stop ≡ GlyphStop.Repeated code) ⊎ (stop ≡ GlyphStop.OutOfMemory))) }
@@ -168,8 +166,8 @@ impl Font {
         let Ok(rows) = rows.to_vec(self.alloc) else {
             return Err(GlyphStop::OutOfMemory);
         };
-        match self.glyphs.push(Glyph { code, width, rows }) {
-            Ok(()) => Ok(()),
+        match self.glyphs.insert(code, Glyph { code, width, rows }) {
+            Ok(_) => Ok(()),
             Err(_) => Err(GlyphStop::OutOfMemory),
         }
     }

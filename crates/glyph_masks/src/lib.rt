@@ -6,4 +6,4 @@ mod rows;
 mod texts;
 
 pub use fonts::{Font, GlyphStop};
-pub use texts::{RunStop, TextRun, no_shared_points};
+pub use texts::{RunStop, TextRun, bits_within, no_shared_points};

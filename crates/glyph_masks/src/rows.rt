@@ -1,10 +1,11 @@
 //! Rows of glyphs as inks.
-ghost use Rattle.std.specs.Prelude.{◌≡◌, ◌+◌, ◌<◌, ◌≤◌, ◌≤ℤ◌, pos, negsuc, length, map};
+ghost use Rattle.std.specs.Prelude.{◌≡◌, ◌+◌, ◌<◌, ◌≤◌, length, map};
 ghost use Rattle.std.specs.List.{All};
 ghost use Rattle.glyph_masks.specs.Texts.{column_bit};
-ghost use Rattle.glyph_masks.specs.Columns.{bit_ink, glyph_inks, text_inks, row_inks};
+ghost use Rattle.glyph_masks.specs.Columns.{bit_ink, glyph_inks, text_inks};
 
 use crate::fonts::Glyph;
+use picture_rows::lay;
 use qws_base::Ink;
 
 // The ink of a column of a row of bits.
@@ -31,8 +32,8 @@ fn glyph_inks(ink: &Ink, width: u32, row: u32, first: u32, out: &mut [Ink])
     }
 }
 
-// The inks of columns of a row of glyphs side by side, from one of them on.
-fn text_inks(ink: &Ink, glyphs: &[&Glyph], row: usize, first: usize, out: &mut [Ink])
+/// The inks of columns of a row of glyphs side by side, from one of them on.
+pub(crate) fn text_inks(ink: &Ink, glyphs: &[&Glyph], row: usize, first: usize, out: &mut [Ink])
     requires { All (λ g. row < length g.now.rows) glyphs.now }
     ensures { out.new ≡ text_inks ink.now (map (λ g. g.now) glyphs.now) row first (length out.old) }
 {
@@ -58,21 +59,6 @@ fn text_inks(ink: &Ink, glyphs: &[&Glyph], row: usize, first: usize, out: &mut [
             column = 0;
         }
     }
-    out[at..].fill(Ink::Skip);
-}
-
-/// The inks of columns of a row of glyphs side by side, from the column `left` on, which may be before the first.
-pub(crate) fn row_inks(ink: &Ink, glyphs: &[&Glyph], row: usize, left: i64, out: &mut [Ink])
-    requires rows { All (λ g. row < length g.now.rows) glyphs.now }
-    requires low { negsuc 65535 ≤ℤ left }
-    requires high { left ≤ℤ pos 65535 }
-    ensures { out.new ≡ row_inks ink.now (map (λ g. g.now) glyphs.now) row left (length out.old) }
-{
-    if left >= 0 {
-        text_inks(ink, glyphs, row, left as usize, out);
-    } else {
-        let before = out.len().min((-left) as usize);
-        out[..before].fill(Ink::Skip);
-        text_inks(ink, glyphs, row, 0, &mut out[before..]);
-    }
+    let end = out.len();
+    lay(at, end, &Ink::Skip, out);
 }

@@ -1,10 +1,11 @@
 //! Texts: glyphs of a font side by side.
-ghost use Rattle.std.specs.Prelude.{◌≡◌, ◌<◌, ◌≤◌, ◌↔◌, ◌-ℤ◌, ℕ, true, nat_abs, Some, length, map, SomeIff, IfSome, IfOk};
-ghost use Rattle.qws_base.specs.Points.{IsPlaced, spans};
-ghost use Rattle.glyph_masks.specs.Texts.{first_missing, spelled, width_of, IsInOneCell};
+ghost use Rattle.std.specs.Prelude.{◌≡◌, ◌≤◌, ◌↔◌, ℕ, Some, length, map, IsTrue, IfOk};
+ghost use Rattle.qws_base.specs.Points.{IsPlaced, holds};
+ghost use Rattle.glyph_masks.specs.Texts.{first_missing, spelled, width_of, IsInOneCell, any_set, cells, text_rect};
 
 use crate::fonts::{Font, Glyph};
-use crate::rows::row_inks;
+use crate::rows::text_inks;
+use picture_rows::{part, places_after, skip_around};
 use qws_base::{Ink, Picture, Point, Rect};
 use std::alloc::Global;
 use std::marker::Model;
@@ -27,22 +28,6 @@ fn width_of(glyphs: &[&Glyph]) -> u32
         width += glyph.width();
     }
     width
-}
-
-// How many rows below the top a row is; none where it is not among the `height` rows from the top on.
-fn row_within(top: i32, height: u32, y: i32) -> Option<usize>
-    ensures spanned { SomeIff result (spans top height y ≡ true) (nat_abs (y -ℤ top)) }
-    ensures within { IfSome result (λ row. row < height) }
-{
-    let row = i64::from(y) - i64::from(top);
-    if row < 0 {
-        return None;
-    }
-    if row < i64::from(height) {
-        Some(row as usize)
-    } else {
-        None
-    }
 }
 
 /// Glyphs of a font side by side, each bit that is set with one ink. Contracts see the top left point, the ink, the height of
@@ -98,12 +83,15 @@ impl<'a> TextRun<'a> {
     }
 }
 
-impl<'a> Picture for TextRun<'a> {
-    ghost use Rattle.glyph_masks.specs.Texts.{text_sheet};
+impl<'a> TextRun<'a> {
+    ghost use Rattle.qws_base.specs.Sheets.{row_of};
+    ghost use Rattle.picture_rows.specs.Runs.{IsInside};
+    ghost use Rattle.glyph_masks.specs.Texts.{text_rect, text_sheet};
 
-    ghost sheet = { text_sheet };
-
-    fn reach(&self) -> Rect {
+    // The rectangle of its cells.
+    fn rect(&self) -> Rect
+        ensures { result ≡ text_rect self.now }
+    {
         Rect {
             x: self.at.x,
             y: self.at.y,
@@ -112,20 +100,47 @@ impl<'a> Picture for TextRun<'a> {
         }
     }
 
-    fn row(&self, y: i32, x: i32, out: &mut [Ink]) {
-        match row_within(self.at.y, self.height, y) {
-            None => out.fill(Ink::Skip),
-            Some(row) => {
-                let left = i64::from(x) - i64::from(self.at.x);
-                row_inks(&self.ink, &self.glyphs, row, left, out);
-            }
+    // The inks of points of a row that are in the rectangle.
+    fn text_inside(&self, y: i32, x: i32, out: &mut [Ink])
+        requires { IsInside (text_rect self.now) y x (length out.old) }
+        ensures { out.new ≡ row_of (text_sheet self.now) y x (length out.old) }
+    {
+        if out.is_empty() {
+            return;
         }
+        let row = places_after(self.at.y, self.height, y);
+        let column = places_after(self.at.x, self.width, x);
+        text_inks(&self.ink, &self.glyphs, row as usize, column as usize, out);
+    }
+}
+
+impl<'a> Picture for TextRun<'a> {
+    ghost use Rattle.glyph_masks.specs.Texts.{text_sheet};
+
+    ghost sheet = { text_sheet };
+
+    fn reach(&self) -> Rect {
+        self.rect()
+    }
+
+    fn row(&self, y: i32, x: i32, out: &mut [Ink]) {
+        let (from, to) = part(self.rect(), y, x, out.len());
+        skip_around(from, to, out);
+        self.text_inside(y, x + from as i32, &mut out[from..to]);
     }
 }
 
 /// No two cells of a text share a point.
 pub fn no_shared_points(text: &TextRun<'_>, p: Point)
     ensures { IsInOneCell text.now p }
+{
+    let _ = text;
+    let _ = p;
+}
+
+/// Each point whose bit is set lies in the rectangle of the text's cells.
+pub fn bits_within(text: &TextRun<'_>, p: Point)
+    ensures { IsTrue (any_set (cells text.now) p) → IsTrue (holds (text_rect text.now) p) }
 {
     let _ = text;
     let _ = p;

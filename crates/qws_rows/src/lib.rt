@@ -8,7 +8,7 @@ mod canvas_rows;
 #[cfg(test)]
 mod channel_rows;
 #[cfg(test)]
-mod picture_rows;
+mod paint_rows;
 #[cfg(test)]
 mod region_rows;
 #[cfg(test)]

@@ -1,10 +1,5 @@
 //! Regions: canonical lists and the operations on them.
-ghost use Rattle.std.specs.Prelude.{pos, negsuc};
-ghost use Rattle.std.specs.Bool.{OnTrue};
-ghost use Rattle.qws_rows.specs.Sides.{IsSide};
-ghost use Rattle.band_regions.specs.Ranges.{IsInRange, IsShiftable};
-
-use band_regions::Region;
+use band_regions::{Region, are_in_range};
 use gfx_fills::Fill;
 use gfx_painters::{Paint, is_on_canvas, paint_plain};
 use pixel_model::Canvas;
@@ -40,27 +35,8 @@ const fn rect(x: i32, y: i32, w: u32, h: u32) -> Rect {
     Rect { x, y, w, h }
 }
 
-// Whether so many places from a start on are in range.
-fn is_side(start: i32, count: u32) -> bool
-    ensures { OnTrue result (IsSide start count) }
-{
-    if start < -32768 || start > 32767 {
-        return false;
-    }
-    if count > 65536 {
-        return false;
-    }
-    start + count as i32 <= 32768
-}
-
-fn is_in_range(rect: &Rect) -> bool
-    ensures { OnTrue result (IsInRange rect.now) }
-{
-    is_side(rect.x, rect.w) && is_side(rect.y, rect.h)
-}
-
 fn region(alloc: Global, rects: &[Rect]) -> Result<Region, Stop> {
-    if rects.iter().all(|r| is_in_range(r)) {
+    if are_in_range(rects) {
         Ok(Region::of_rects(alloc, rects)?)
     } else {
         Err(Stop::OutOfRange)
@@ -69,28 +45,11 @@ fn region(alloc: Global, rects: &[Rect]) -> Result<Region, Stop> {
 
 // Moved by three columns to the right and one row up.
 fn shifted(alloc: Global, region: &Region) -> Result<Region, Stop> {
-    let rects = region.rects();
-    if rects.iter().all(|r| stays_in_range(r)) {
+    if region.can_shift(3, -1) {
         Ok(region.shift(alloc, 3, -1)?)
     } else {
         Err(Stop::OutOfRange)
     }
-}
-
-fn stays_in_range(rect: &Rect) -> bool
-    ensures { OnTrue result (IsShiftable (pos 3) (negsuc 0) rect.now) }
-{
-    is_shiftable(rect, 3, -1)
-}
-
-// Whether a rectangle that is moved so far is in range.
-fn is_shiftable(rect: &Rect, dx: i32, dy: i32) -> bool
-    ensures { OnTrue result (IsShiftable dx dy rect.now) }
-{
-    if dx < -65536 || dx > 65536 || dy < -65536 || dy > 65536 || !is_in_range(rect) {
-        return false;
-    }
-    is_side(dx + rect.x, rect.w) && is_side(dy + rect.y, rect.h)
 }
 
 #[test]

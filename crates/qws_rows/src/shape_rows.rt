@@ -5,6 +5,7 @@ ghost use Rattle.qws_base.specs.Points.{IsPlaced};
 
 use gfx_lines::{Line, Polyline};
 use gfx_polygons::Polygon;
+use picture_rows::PointList;
 use qws_base::{Ink, Picture, Point, Rgb};
 use std::test::Fail;
 
@@ -97,5 +98,13 @@ fn too_few_points(rt: HostRuntime) -> Result<(), Fail> {
         return Err(Fail::from("two points are enough"));
     };
     assert_eq!(rt; stop, gfx_polygons::PointStop::BadPoints { count: 2 });
+    Ok(())
+}
+
+#[test]
+fn lists_of_points(rt: HostRuntime) -> Result<(), Fail> {
+    let points = [Point { x: 0, y: 0 }, Point { x: 2, y: 1 }];
+    let list = PointList::new(rt.alloc(), &points, 2)?;
+    assert_eq!(rt; list.as_slice(), points.as_slice());
     Ok(())
 }

@@ -1,7 +1,8 @@
 use Rattle.std.proofs.Common.{◌≡◌, ◌<◌, ◌∙◌, length, ap, to_z, of_z, w32, arith}
 use Rattle.std.proofs.lemmas.Int.{ints}
 use Rattle.gfx_fills.specs.Images.{blit_rect}
-use Rattle.gfx_fills.proofs.TileLemmas.{inside_column, inside_end, row_length, blit_made}
+use Rattle.picture_rows.proofs.RunLemmas.{inside_column, inside_end}
+use Rattle.gfx_fills.proofs.TileLemmas.{row_length, blit_made}
 use Rattle.gfx_fills.proofs.blits.blit_inside.Goals as goal
 
 pub places_after-column-requires : goal.places_after-column-requires

@@ -1,6 +1,7 @@
 use Rattle.std.proofs.Common.{◌≡◌, ◌<◌, ◌%◌, ◌∙◌, ◌-ℤ◌, nat_abs, length, ap, to_z, of_z, w32, arith}
 use Rattle.std.proofs.lemmas.Int.{ints}
-use Rattle.gfx_fills.proofs.TileLemmas.{inside_column, tile_made}
+use Rattle.picture_rows.proofs.RunLemmas.{inside_column}
+use Rattle.gfx_fills.proofs.TileLemmas.{tile_made}
 use Rattle.gfx_fills.proofs.tiles.tile_inside.Goals as goal
 
 pub places_after-column-requires : goal.places_after-column-requires

@@ -46,6 +46,6 @@ loop-glyph-preserved c =
 pub returns : goal.returns
 returns c =
     let past : map seen (drop c.loop-glyph.glyph-index c.args.glyphs.now) ≡ [] = ap (map seen) (drop_all c.loop-glyph.glyph-index c.args.glyphs.now c.loop-glyph-test.false) in
-    front_end c.args.ink.now (map seen c.args.glyphs.now) c.args.row c.args.first c.loop-glyph.column c.loop-glyph.at (length c.args.out.now) c.loop-glyph.out c.fill.new.self
+    front_end c.args.ink.now (map seen c.args.glyphs.now) c.args.row c.args.first c.loop-glyph.column c.loop-glyph.at (length c.args.out.now) c.loop-glyph.out c.lay.new.out
     (subst (λ l. Front c.args.ink.now (map seen c.args.glyphs.now) l c.args.row c.args.first c.loop-glyph.column c.loop-glyph.at c.loop-glyph.out) past c.loop-glyph.invariant)
-    (omega arith) (c.fill.ensures.after (λ ink e. e))
+    (omega arith) c.lay.ensures
