@@ -15,7 +15,7 @@ use std::alloc::Global;
 use std::marker::Model;
 
 /// A picture with its screen: for each pixel a scene colour of the screen's depth.
-#[derive(Drop)]
+#[derive(Debug, Drop)]
 pub struct Canvas {
     size: Size,
     depth: Depth,

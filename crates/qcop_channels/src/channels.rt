@@ -18,7 +18,7 @@ use std::marker::Model;
 ///
 /// Room for 64 channels of 16 subscribers and for all events that the mailboxes may hold is taken at the start. A join or a
 /// send takes what else it needs when it is prepared, and nothing when it is carried out.
-#[derive(Drop)]
+#[derive(Debug, Drop)]
 pub struct Channels {
     alloc: Global,
     known: Known,

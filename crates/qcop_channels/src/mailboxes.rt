@@ -37,7 +37,7 @@ fn is_region_of(slot: u32, event: &Event) -> bool
 
 /// The events of a client, oldest first: at most 256 messages, and at most one `RegionModified` for each of 32 slots. There
 /// is room for all of these from the start.
-#[derive(Drop)]
+#[derive(Debug, Drop)]
 pub struct Mailbox {
     events: VecDeque<Event>,
     messages: usize,

@@ -17,7 +17,7 @@ use std::marker::Model;
 const MOST_BYTES: usize = 4096;
 
 /// A message of a client to a channel.
-#[derive(Clone, Copy)]
+#[derive(Clone, Copy, Debug)]
 pub struct Letter<'a> {
     pub from: u32,
     pub channel: &'a [u8],
@@ -26,7 +26,7 @@ pub struct Letter<'a> {
 }
 
 /// A message with a copy for each subscriber of its channel: all memory that sending it takes.
-#[derive(Drop)]
+#[derive(Debug, Drop)]
 pub struct PreparedSend {
     from: u32,
     channel: Bytes,

@@ -11,7 +11,7 @@ use std::marker::Model;
 const MOST_CLIENTS: usize = 16;
 
 /// The clients that subscribe to a channel, in the order of joining. There is room for all 16 from the start.
-#[derive(Drop)]
+#[derive(Debug, Drop)]
 pub struct Subscribers {
     clients: Vec<u32>,
 }

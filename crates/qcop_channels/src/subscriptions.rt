@@ -75,7 +75,7 @@ pub fn may_join(known: &Known, client: u32, name: &[u8]) -> Result<(), QcopStop>
 }
 
 /// A client that joins a channel, with all memory that this takes.
-#[derive(Drop)]
+#[derive(Debug, Drop)]
 pub struct PreparedJoin {
     client: u32,
     channel: Vec<u8>,

@@ -1,5 +1,5 @@
 -- Bytes that no cause refuses spell a command or a reply.
-use Rattle.std.proofs.Common.{◌≡◌, ◌≢◌, ℕ, ◌+◌, ◌-◌, ◌/◌, ◌≤◌, ◌<◌, ◌==◌, true, false, None, List, length, take, drop, refl, sym, ap, ◌∙◌, subst, ⊎_elim, length-drop, arith}
+use Rattle.std.proofs.Common.{◌≡◌, ◌≢◌, ℕ, ◌+◌, ◌/◌, ◌≤◌, ◌<◌, ◌==◌, true, false, None, List, length, take, drop, refl, sym, ap, ◌∙◌, subst, ⊎_elim, length-drop, arith}
 use Rattle.std.proofs.lemmas.Bool.{cases_eq}
 use Rattle.std.proofs.lemmas.Bool.Decides.{nat_tests}
 use Rattle.std.proofs.lemmas.List.{length-take-le}
@@ -13,7 +13,7 @@ use Rattle.qws_base.specs.declared.replies.Reply.{Reply}
 use Rattle.qws_base.specs.declared.replies.Reply.TheVariants as reply
 use Rattle.qws_frames.specs.Layout.{SpellsCommand, SpellsReply, SpellsCause, u16_at, u32_at, i32_at, point_at, rects_at, words_at}
 use Rattle.qws_frames.specs.Stops.{frame_refusal, is_known, field_count}
-use Rattle.qws_frames.proofs.SoundLemmas.{sound, with_raw, without_raw, truth_at, send_lengths, message_lengths, number_range, first_unused, second_unused, letter_parts, region_spelled, shape_spelled, send_spelled, message_spelled, open_frame}
+use Rattle.qws_frames.proofs.SoundLemmas.{is_refused, sound, with_raw, without_raw, truth_at, send_lengths, message_lengths, number_range, first_unused, second_unused, letter_parts, region_spelled, shape_spelled, send_spelled, message_spelled, open_frame}
 
 by : {G : Type 0} (k n : ℕ) → (k ≡ n → G) → (k ≢ n → G) → G
 by k n here there = ⊎_elim here there (cases_eq k n)
@@ -129,9 +129,6 @@ some_refusal bytes refused is =
     (record { low = range.0; high = range.1; no_first = first_unused true bytes refused is; no_second = second_unused true bytes refused is }) in
     (reply.Refused cause.0, (without_raw true bytes refused 135 12 is refl refl, cause.1))
 
-last_reply : (kind : ℕ) → is_known true kind ≡ true → kind ≢ 129 → kind ≢ 130 → kind ≢ 131 → kind ≢ 132 → kind ≢ 133 → kind ≢ 134 → kind ≡ 135
-last_reply kind known n1 n2 n3 n4 n5 n6 = grind (arith, nat_tests)
-
 pub some_reply : (bytes : List ℕ) → frame_refusal true bytes ≡ None → (reply : Reply) × SpellsReply reply bytes
 some_reply bytes refused =
     let kind : ℕ = u16_at 0 bytes in
@@ -141,4 +138,4 @@ some_reply bytes refused =
     (λ n3. by kind 132 (λ is. (reply.Registered (u32_at 8 bytes == 1), (without_raw true bytes refused 132 4 is refl refl, truth_at true bytes refused 132 is refl)))
     (λ n4. by kind 133 (some_message bytes refused)
     (λ n5. by kind 134 (λ is. (reply.Event (RegionModified (u32_at 8 bytes)), (without_raw true bytes refused 134 4 is refl refl, refl)))
-    (λ n6. some_refusal bytes refused (last_reply kind (sound true bytes refused).known n1 n2 n3 n4 n5 n6)))))))
+    (λ n6. some_refusal bytes refused (is_refused kind (sound true bytes refused).known n1 n2 n3 n4 n5 n6)))))))

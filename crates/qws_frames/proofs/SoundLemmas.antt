@@ -1,10 +1,10 @@
 -- What bytes that no cause refuses have.
-use Rattle.std.proofs.Common.{◌≡◌, ℕ, ◌+◌, ◌*◌, ◌%◌, ◌/◌, ◌-◌, ◌++◌, ◌∷◌, [], zero, suc, take, drop, append_assoc, ◌<◌, ◌≤◌, nat_le, nat_lt, Bool, true, false, not, ◌&&◌, ◌||◌, ◌==◌, if◌then◌else◌, List, length, Option, Some, None, refl, sym, ap, subst, ◌≢◌, length-drop, ◌∙◌, arith}
+use Rattle.std.proofs.Common.{◌≡◌, ℕ, ◌+◌, ◌*◌, ◌%◌, ◌/◌, ◌++◌, ◌∷◌, [], zero, suc, take, drop, append_assoc, ◌<◌, ◌≤◌, nat_le, nat_lt, Bool, true, false, not, ◌&&◌, ◌||◌, ◌==◌, if◌then◌else◌, List, length, Option, Some, None, refl, sym, ap, subst, ◌≢◌, length-drop, ◌∙◌, arith}
 use Rattle.std.specs.Option.{option_or}
+use Rattle.std.proofs.lemmas.Bool.{eqb-true}
 use Rattle.std.proofs.lemmas.Bool.Decides.{nat_tests}
 use Rattle.qws_frames.specs.declared.stops.FrameStop.{FrameStop}
 use Rattle.qws_frames.specs.Layout.{SpellsCommand, SpellsCause, SpellsEvent, point_at, u16_at, u32_at, rect_at, rects_at, words_at, truth_of, IsFrame}
-use Rattle.std.proofs.lemmas.Grind.{common_steps}
 use Rattle.std.proofs.lemmas.List.{take-append-drop}
 use Rattle.std.proofs.lemmas.List.FromFn.{map-range_with_len_more, length-map-range_with_len}
 use Rattle.qws_frames.specs.Stops.{is_known, simple_length, raw_fits, whole_length, head_refusal, parts_refusal, field_refusal, frame_refusal, field_count, takes_bytes}
@@ -38,9 +38,6 @@ not_false false h = sym h
 few_from : (raw : ℕ) → nat_lt 65536 raw ≡ false → raw ≤ 65536
 few_from raw h = grind (arith, nat_tests)
 
-simple_from : (a b : ℕ) → (a == b) ≡ true → a ≡ b
-simple_from a b h = grind (arith, nat_tests)
-
 whole_from : (a b : ℕ) → nat_lt a b ≡ false → nat_lt b a ≡ false → a ≡ b
 whole_from a b h k = grind (arith, nat_tests)
 
@@ -58,7 +55,7 @@ sound is_reply bytes h =
     record {
       known = not_false _ h2.0;
       few = few_from (u32_at 4 bytes) h3.0;
-      simple = simple_from (u16_at 2 bytes) (simple_length (u16_at 0 bytes)) (not_false _ h4.0);
+      simple = eqb-true (u16_at 2 bytes) (simple_length (u16_at 0 bytes)) (not_false _ h4.0);
       whole = whole_from (length bytes) (whole_length bytes) p1.0 p3.0;
       fits = not_false _ p2.0;
       fields = others.1;
@@ -77,7 +74,7 @@ module _ (is_reply : Bool) (bytes : List ℕ) (refused : frame_refusal is_reply 
   with_raw_of raw fit =
       let s = sound is_reply bytes refused in
       let f = with_raw in
-      let raw_is : u32_at 4 bytes ≡ raw = simple_from (u32_at 4 bytes) raw (sym fit ∙ ap (λ (k : ℕ). raw_fits k (u32_at 4 bytes) bytes) (sym kind_is) ∙ s.fits) in
+      let raw_is : u32_at 4 bytes ≡ raw = eqb-true (u32_at 4 bytes) raw (sym fit ∙ ap (λ (k : ℕ). raw_fits k (u32_at 4 bytes) bytes) (sym kind_is) ∙ s.fits) in
       record { kind_is = kind_is; simple_is = f.simple_is; raw_is = raw_is; few = omega arith; whole = omega arith }
 
   -- a frame without a raw part
@@ -153,20 +150,16 @@ module _ (is_reply : Bool) (bytes : List ℕ) (refused : frame_refusal is_reply 
 
   pub raw_of_region : u16_at 0 bytes ≡ 3 → u32_at 4 bytes ≡ 16 * u32_at 20 bytes
   raw_of_region is =
-      simple_from (u32_at 4 bytes) (16 * u32_at 20 bytes) (ap (λ (k : ℕ). raw_fits k (u32_at 4 bytes) bytes) (sym is) ∙ (sound is_reply bytes refused).fits)
+      eqb-true (u32_at 4 bytes) (16 * u32_at 20 bytes) (ap (λ (k : ℕ). raw_fits k (u32_at 4 bytes) bytes) (sym is) ∙ (sound is_reply bytes refused).fits)
 
   pub raw_of_cells : u16_at 0 bytes ≡ 7 → u32_at 4 bytes ≡ 4 * (u32_at 4 bytes / 4)
   raw_of_cells is =
-      let rest : u32_at 4 bytes % 4 ≡ 0 = simple_from (u32_at 4 bytes % 4) 0 (ap (λ (k : ℕ). raw_fits k (u32_at 4 bytes) bytes) (sym is) ∙ (sound is_reply bytes refused).fits) in
+      let rest : u32_at 4 bytes % 4 ≡ 0 = eqb-true (u32_at 4 bytes % 4) 0 (ap (λ (k : ℕ). raw_fits k (u32_at 4 bytes) bytes) (sym is) ∙ (sound is_reply bytes refused).fits) in
       quarter (u32_at 4 bytes) rest
 
 pub letter_parts : (xs : List ℕ) (a b : ℕ) → xs ≡ (take a xs ++ take b (drop a xs)) ++ drop b (drop a xs)
 letter_parts xs a b =
     sym (append_assoc (take a xs) (take b (drop a xs)) (drop b (drop a xs)) ∙ ap (λ (rest : List ℕ). take a xs ++ rest) (take-append-drop b (drop a xs)) ∙ take-append-drop a xs)
-
--- the slice from a place to the end
-pub rest_from : (xs : List ℕ) (start : ℕ) → take (length xs - start) (drop start xs) ≡ drop start xs
-rest_from xs start = grind (arith, common_steps)
 
 pub rects_more : (bytes : List ℕ) (at k : ℕ) → rects_at at (k + 1) bytes ≡ rects_at at k bytes ++ rect_at (at + 16 * k) bytes ∷ []
 rects_more bytes at k = map-range_with_len_more (λ j. rect_at (at + 16 * j) bytes) 0 k k (omega arith)

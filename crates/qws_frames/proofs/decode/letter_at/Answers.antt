@@ -1,11 +1,12 @@
+use Rattle.std.proofs.lemmas.List.{take_rest}
 use Rattle.std.proofs.Common.{◌≡◌, take, drop, ap, ◌∙◌, rules}
-use Rattle.qws_frames.proofs.SoundLemmas.{letter_parts, rest_from}
+use Rattle.qws_frames.proofs.SoundLemmas.{letter_parts}
 use Rattle.qws_frames.proofs.decode.letter_at.Goals as goal
 
 pub returns-clause-text : goal.returns-clause-text
 returns-clause-text c =
     let rest = drop c.args.start c.args.bytes.now in
-    let whole = rest_from c.args.bytes.now c.args.start in
+    let whole = take_rest c.args.bytes.now c.args.start in
     let a = c.args.channel_len in
     let b = c.args.message_len in
     let items1 : c.in_ok-channel.channel.items ≡ c.split_at.result.0.now = search rules in
