@@ -1,6 +1,9 @@
 //! The file of a session without a call, written and read, and with each byte of its head changed.
-use qws_base::Size;
-use session_journal::{File, FileStop, History, read_file, write_file};
+use qws_base::{Command, PaintReply, Refusal, Reply, Size};
+use session_journal::{
+    Entry, File, FileStop, History, client_named, push_paint_comment, push_picture,
+    push_step_comment, read_file, write_file,
+};
 use std::test::Fail;
 
 // No comment, two columns and one row, and both pixels 0x102030.
@@ -80,5 +83,67 @@ fn finds_where_bytes_leave_the_grammar(rt: HostRuntime) -> Result<(), Fail> {
             Some(FileStop::Bad { at })
         );
     }
+    Ok(())
+}
+
+#[test]
+fn a_written_comment_reads_back_and_names_its_client(rt: HostRuntime) -> Result<(), Fail> {
+    let alloc = rt.alloc();
+    let size = Size::new(1, 1).ok_or("a size")?;
+    let entries = vec![in alloc;
+        Entry::Step {
+            client: 12,
+            command: Command::Take,
+            reply: Reply::Refused {
+                cause: Refusal::Empty
+            }
+        },
+        Entry::Paint {
+            client: 3,
+            slot: 0,
+            tag: 0,
+            reply: PaintReply::Painted { pixels: 307200 }
+        },
+    ]?;
+    let bytes = write_file(alloc, size, &History::of(entries), &[0x010203])?;
+    let file = read_file(alloc, &bytes)?;
+    let lines = file.lines.as_slice();
+    assert_eq!(rt; lines.len(), 2);
+    assert_eq!(rt; lines[0].as_slice(), b" 12 0 refused 16".as_slice());
+    assert_eq!(rt; lines[1].as_slice(), b" 3 0 painted 307200".as_slice());
+    assert_eq!(rt; client_named(lines[0].as_slice(), 16), Some(12));
+    assert_eq!(rt; client_named(lines[0].as_slice(), 12), None);
+    assert_eq!(rt; client_named(lines[1].as_slice(), 16), Some(3));
+    Ok(())
+}
+
+#[test]
+fn pushes_comments_and_the_picture(rt: HostRuntime) -> Result<(), Fail> {
+    let alloc = rt.alloc();
+    let size = Size::new(2, 1).ok_or("a size")?;
+    let mut out = Vec::new(alloc);
+    push_step_comment(alloc, &mut out, 0, 7, &Reply::Created { slot: 31 })?;
+    assert_eq!(rt; out.as_slice(), b" 0 7 created 31".as_slice());
+    out.clear();
+    push_paint_comment(alloc, &mut out, 15, 65535, PaintReply::Gone)?;
+    assert_eq!(rt; out.as_slice(), b" 15 65535 gone".as_slice());
+    out.clear();
+    push_picture(alloc, &mut out, size, &[0x102030, 0x405060])?;
+    assert_eq!(rt;
+        out.as_slice(),
+        b"2 1\n255\n\x10\x20\x30\x40\x50\x60".as_slice()
+    );
+    Ok(())
+}
+
+#[test]
+fn long_numbers_name_no_client(rt: HostRuntime) -> Result<(), Fail> {
+    assert_eq!(rt; client_named(b" 4294967296 0 done", 16), None);
+    assert_eq!(rt;
+        client_named(b" 99999999999999999999999999 0 done", 16),
+        None
+    );
+    assert_eq!(rt; client_named(b" 007 0 done", 16), Some(7));
+    assert_eq!(rt; client_named(b"", 0), None);
     Ok(())
 }

@@ -8,8 +8,8 @@ use Rattle.std.proofs.lemmas.List.{take_all, length-replicate, take-append-drop}
 use Rattle.std.proofs.Math.Seq.{take-add}
 use Rattle.std.proofs.lemmas.Bool.Decides.{nat_tests}
 use Rattle.session_journal.specs.declared.files.File.{File}
-use Rattle.session_journal.specs.declared.places.Place.{Place}
-use Rattle.session_journal.specs.declared.places.Place.TheVariants.{Magic, Line, Comment, Width, Blank, Height, Most, Raster}
+use Rattle.session_journal.specs.declared.places.Stage.{Stage}
+use Rattle.session_journal.specs.declared.places.Stage.TheVariants.{Magic, Line, Comment, Width, Blank, Height, Most, Raster}
 use Rattle.session_journal.specs.Texts.{line_text, head_text}
 use Rattle.session_journal.specs.Grammar.{IsComment, IsFile, BeginsFile, LeavesAt}
 use Rattle.session_journal.specs.Places.{Behind, Number, WholeNumber, HeightOf, MostOf, RasterOf, WidthOf, Lines, Comments, Follows, IsPlace, Leads}
@@ -125,7 +125,7 @@ comment_lives lines line ok =
     let next = lines_live (lines ++ (line ++ []) ∷ []) in
     record { tail = 10 ∷ next.tail; file = next.file; follows = record { more = []; rest = next.tail; comment = subst IsComment (sym (append-nil line)) ok; text_is = refl; next = next.follows } }
 
-pub lives : (place : Place) (lines : List (List ℕ)) (line : List ℕ) → IsPlace place line → Lives (Follows place lines line)
+pub lives : (place : Stage) (lines : List (List ℕ)) (line : List ℕ) → IsPlace place line → Lives (Follows place lines line)
 lives (Magic read) lines line ok = behind_lives (drop read (codes "P6\n")) (Lines lines) (lines_live lines)
 lives Line lines line ok = lines_live lines
 lives Comment lines line ok = comment_lives lines line ok
@@ -153,7 +153,7 @@ most_open w h (suc (suc zero)) lines file low = behind_nil 53 (10 ∷ []) (Raste
 most_open w h (suc (suc (suc zero))) lines file low = behind_nil 10 [] (RasterOf lines w h) file
 most_open w h (suc (suc (suc (suc read)))) lines file low = absurd (omega arith)
 
-pub still_open : (place : Place) (lines : List (List ℕ)) (line : List ℕ) (file : File) → IsPlace place line → ¬ Follows place lines line [] file
+pub still_open : (place : Stage) (lines : List (List ℕ)) (line : List ℕ) (file : File) → IsPlace place line → ¬ Follows place lines line [] file
 still_open (Magic read) lines line file ok = magic_open read lines file ok.0
 still_open Line lines line file ok = lines_nil lines file
 still_open Comment lines line file ok = comments_nil lines line file
@@ -178,7 +178,7 @@ past (x ∷ xs) (suc at) zero above within = absurd (omega arith)
 past (x ∷ xs) (suc at) (suc k) above within = let p = past xs at k (omega arith) (omega arith) in record { rest = p.rest; is = ap (λ (l : List ℕ). x ∷ l) p.is }
 
 -- a reader stopped: no file goes on with the byte there, if there is one
-pub leaves : (bytes : List ℕ) (at : ℕ) (place : Place) (lines : List (List ℕ)) (line : List ℕ) → at ≤ length bytes → IsPlace place line → Leads bytes at place lines line
+pub leaves : (bytes : List ℕ) (at : ℕ) (place : Stage) (lines : List (List ℕ)) (line : List ℕ) → at ≤ length bytes → IsPlace place line → Leads bytes at place lines line
     → (at < length bytes → (tail : List ℕ) (file : File) → ¬ Follows place lines line (get_or bytes at 0 ∷ tail) file) → LeavesAt bytes at
 leaves bytes at place lines line within ok leads stuck = record {
   no_file = λ file is. no_file file is (nat_lt at (length bytes)) refl;
@@ -222,6 +222,9 @@ module _ (bytes : List ℕ) (at w h : ℕ) (lines : List (List ℕ)) (within : a
       let rest = left in
       let low = within in
       omega arith
+
+  pub raster_only : (other : File) → IsFile bytes other → other ≡ with_rows (drop at bytes)
+  raster_only other is = ((leads (drop at bytes) other).0 (subst (λ (l : List ℕ). IsFile l other) (sym whole) is)).file_is
 
   pub raster_fits : at + 3 * (w * h) ≡ length bytes → IsFile bytes (with_rows (drop at bytes))
   raster_fits end = subst (λ (l : List ℕ). IsFile l (with_rows (drop at bytes))) whole (is_with_rows (drop at bytes) (let rest = left in omega arith))

@@ -4,3 +4,5 @@ pub mod NumberLemmas
 pub mod PlaceLemmas
 pub mod StepLemmas
 pub mod LeaveLemmas
+pub mod CommentLemmas
+pub mod FrontLemmas

@@ -1,10 +1,13 @@
 -- The comments of entries, one after another, and how many entries of each client stand before.
-use Rattle.std.proofs.Common.{◌≡◌, ℕ, ◌+◌, ◌≤◌, ◌++◌, [], ◌∷◌, List, Bool, true, false, cond, ◌==◌, length, Option, Some, unwrap_or, refl, sym, ap, ◌∙◌, append_assoc, append-nil, arith}
+use Rattle.std.proofs.Common.{◌≡◌, ℕ, ◌+◌, ◌*◌, ◌≤◌, ◌++◌, [], ◌∷◌, List, Bool, true, false, cond, ◌==◌, length, Option, Some, unwrap_or, refl, sym, ap, subst, ◌∙◌, append_assoc, append-nil, arith}
+use Rattle.std.specs.Prelude.{All}
 use Rattle.std.proofs.lemmas.Bool.Decides.{nat_tests}
+use Rattle.std.proofs.lemmas.List.Elements.{All-push}
 use Rattle.std.proofs.lemmas.Grind.{flat_map-append}
 use Rattle.std.specs.List.{flat_map}
 use lib.Dec.{eqb}
-use Rattle.session_journal.specs.Texts.{Told, comment, comments, comments_behind, entries_of, line_text}
+use Rattle.session_journal.specs.Grammar.{IsComment}
+use Rattle.session_journal.specs.Texts.{Told, comment, comments, comments_behind, entries_of, line_text, colour_bytes}
 
 -- one entry more
 pub comments_behind-more : (before entries : List Told) (t : Told) → comments_behind before (entries ++ t ∷ []) ≡ comments_behind before entries ++ comment t.client (entries_of t.client (before ++ entries)) t.words ∷ []
@@ -64,3 +67,17 @@ lines_more before now entries t client number is counted now_is =
     ∙ append_assoc before (flat_map line_text (comments entries)) line
     ∙ ap (λ (l : List ℕ). before ++ (flat_map line_text (comments entries) ++ l)) (sym (append-nil line))
     ∙ ap (λ (l : List ℕ). before ++ l) (sym (ap (flat_map line_text) (comments_behind-more [] entries t) ∙ flat_map-append line_text (comments entries) (comment t.client (entries_of t.client entries) t.words ∷ [])))
+
+-- each comment of one entry more is one
+pub all_more : (entries : List Told) (t : Told) (client number : ℕ) → client ≡ t.client → number ≡ entries_of client entries
+    → All IsComment (comments entries) → IsComment (comment t.client number t.words) → All IsComment (comments (entries ++ t ∷ []))
+all_more entries t client number is counted all line =
+    let count : number ≡ entries_of t.client entries = counted ∙ ap (λ (k : ℕ). entries_of k entries) is in
+    subst (All IsComment) (sym (comments_behind-more [] entries t))
+    (All-push IsComment (comments entries) (comment t.client (entries_of t.client entries) t.words) all
+    (subst (λ (n : ℕ). IsComment (comment t.client n t.words)) count line))
+
+-- three bytes a colour
+pub raster_length : (shown : List ℕ) → length (flat_map colour_bytes shown) ≡ 3 * length shown
+raster_length [] = refl
+raster_length (c ∷ shown) = let rest = raster_length shown in omega arith

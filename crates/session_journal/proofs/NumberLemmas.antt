@@ -1,19 +1,12 @@
 -- Digits of a number without leading zero, and the decimal text of its value.
-use Rattle.std.proofs.Common.{◌≡◌, ℕ, ◌+◌, ◌-◌, ◌*◌, ◌/◌, ◌%◌, ◌^◌, ◌<◌, ◌≤◌, ◌++◌, [], ◌∷◌, List, Bool, true, false, ◌&&◌, refl, sym, ap, ◌∙◌, append_assoc, append-nil, arith}
+use Rattle.std.proofs.Common.{◌≡◌, ℕ, ◌+◌, ◌-◌, ◌*◌, ◌/◌, ◌%◌, ◌^◌, ◌<◌, ◌≤◌, ◌++◌, [], ◌∷◌, List, true, refl, sym, ap, ◌∙◌, append_assoc, append-nil, arith}
 use Rattle.std.specs.List.{list_all}
 use Rattle.std.specs.Fmt.{decimal}
 use Rattle.std.proofs.lemmas.Fmt.{decimal_step, decimal_by_steps, decimal_digit}
 use Rattle.std.proofs.lemmas.List.Folds.{list_all-append}
+use Rattle.std.proofs.lemmas.Bool.{and_parts, and_from}
 use Rattle.std.proofs.lemmas.Bool.Decides.{nat_tests}
 use Rattle.session_journal.specs.Places.{is_digit, value_on}
-
-pub both_true : (a b : Bool) → (a && b) ≡ true → (a ≡ true) × (b ≡ true)
-both_true true b h = (refl, h)
-both_true false b h = cc
-
-pub true_both : (a b : Bool) → a ≡ true → b ≡ true → (a && b) ≡ true
-true_both true b h k = k
-true_both false b h k = h
 
 pub digit_range : (c : ℕ) → is_digit c ≡ true → (48 ≤ c) × (c ≤ 57)
 digit_range c h = (grind (arith, nat_tests), grind (arith, nat_tests))
@@ -37,7 +30,7 @@ decimal_next n d some low high small =
 pub decimal_on : (ds : List ℕ) (n : ℕ) → list_all is_digit ds ≡ true → 1 ≤ n → value_on n ds < 2 ^ 64 → decimal (value_on n ds) ≡ decimal n ++ ds
 decimal_on [] n all some small = sym (append-nil (decimal n))
 decimal_on (d ∷ ds) n all some small =
-    let parts = both_true (is_digit d) (list_all is_digit ds) all in
+    let parts = and_parts (is_digit d) (list_all is_digit ds) all in
     let range = digit_range d parts.0 in
     let least = value_least (10 * n + (d - 48)) ds in
     decimal_on ds (10 * n + (d - 48)) parts.1 (omega arith) small
@@ -71,7 +64,7 @@ more_digits n ds ten rest some =
       text_is = ap (λ (l : List ℕ). l ++ (48 + n % 10) ∷ []) p.text_is;
       low = p.low;
       high = p.high;
-      are_digits = list_all-append is_digit p.others ((48 + n % 10) ∷ []) ∙ true_both (list_all is_digit p.others) (list_all is_digit ((48 + n % 10) ∷ [])) p.are_digits (true_both (is_digit (48 + n % 10)) true last refl);
+      are_digits = list_all-append is_digit p.others ((48 + n % 10) ∷ []) ∙ and_from (list_all is_digit p.others) (list_all is_digit ((48 + n % 10) ∷ [])) p.are_digits (and_from (is_digit (48 + n % 10)) true last refl);
       value = omega (arith, value_more (p.first - 48) p.others (48 + n % 10));
     }
 

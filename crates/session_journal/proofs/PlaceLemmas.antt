@@ -3,13 +3,13 @@ use Rattle.std.proofs.Common.{◌≡◌, ◌≢◌, ◌↔◌, ℕ, zero, suc, �
 use Rattle.std.specs.List.{list_all, flat_map}
 use Rattle.std.specs.Fmt.{decimal}
 use Rattle.std.proofs.lemmas.List.Folds.{list_all-append}
-use Rattle.std.proofs.lemmas.Bool.{false≢true}
+use Rattle.std.proofs.lemmas.Bool.{false≢true, and_parts, and_from}
 use Rattle.std.proofs.lemmas.Bool.Decides.{nat_tests}
 use Rattle.session_journal.specs.declared.files.File.{File}
 use Rattle.session_journal.specs.Texts.{line_text}
 use Rattle.session_journal.specs.Grammar.{is_printing, IsComment}
 use Rattle.session_journal.specs.Places.{Behind, Number, WholeNumber, WidthOf, Lines, Comments, is_digit, is_first_digit, value_on}
-use Rattle.session_journal.proofs.NumberLemmas.{both_true, true_both, value_least, decimal_on, decimal_first, decimal_digits}
+use Rattle.session_journal.proofs.NumberLemmas.{value_least, decimal_on, decimal_first, decimal_digits}
 
 never : (b : Bool) {X : Type 0} → b ≡ true → b ≡ false → X
 never true h k = absurd (false≢true (sym k))
@@ -47,12 +47,12 @@ module _ (most end : ℕ) (other : is_digit end ≡ false) (Next : ℕ → List 
     where
       ended : (digits rest : List ℕ) → list_all is_digit digits ≡ true → end ∷ ys ≡ digits ++ end ∷ rest → Next (value_on n digits) rest file → Next n ys file
       ended [] rest all is next = let same : rest ≡ ys = cc in subst (λ (l : List ℕ). Next n l file) same next
-      ended (d ∷ ds) rest all is next = let same : d ≡ end = cc in never (is_digit end) (ap is_digit (sym same) ∙ (both_true (is_digit d) (list_all is_digit ds) all).0) other
+      ended (d ∷ ds) rest all is next = let same : d ≡ end = cc in never (is_digit end) (ap is_digit (sym same) ∙ (and_parts (is_digit d) (list_all is_digit ds) all).0) other
 
   pub number_digit : (c : ℕ) → is_digit c ≡ true → Number most end n Next (c ∷ ys) file ↔ Number most end (10 * n + (c - 48)) Next ys file
   number_digit c digit = (
     λ h. more h.digits h.rest h.are_digits h.text_is h.small h.next,
-    λ h. record { digits = c ∷ h.digits; rest = h.rest; are_digits = true_both (is_digit c) (list_all is_digit h.digits) digit h.are_digits; text_is = ap (λ (l : List ℕ). c ∷ l) h.text_is; small = h.small; next = h.next },
+    λ h. record { digits = c ∷ h.digits; rest = h.rest; are_digits = and_from (is_digit c) (list_all is_digit h.digits) digit h.are_digits; text_is = ap (λ (l : List ℕ). c ∷ l) h.text_is; small = h.small; next = h.next },
   )
     where
       more : (digits rest : List ℕ) → list_all is_digit digits ≡ true → c ∷ ys ≡ digits ++ end ∷ rest → value_on n digits ≤ most → Next (value_on n digits) rest file → Number most end (10 * n + (c - 48)) Next ys file
@@ -61,7 +61,7 @@ module _ (most end : ℕ) (other : is_digit end ≡ false) (Next : ℕ → List 
           let same : d ≡ c = cc in
           let tail : ys ≡ ds ++ end ∷ rest = cc in
           let value : value_on n (d ∷ ds) ≡ value_on n (c ∷ ds) = ap (λ (e : ℕ). value_on n (e ∷ ds)) same in
-          record { digits = ds; rest = rest; are_digits = (both_true (is_digit d) (list_all is_digit ds) all).1; text_is = tail; small = subst (λ (v : ℕ). v ≤ most) value small; next = subst (λ (v : ℕ). Next v rest file) value next }
+          record { digits = ds; rest = rest; are_digits = (and_parts (is_digit d) (list_all is_digit ds) all).1; text_is = tail; small = subst (λ (v : ℕ). v ≤ most) value small; next = subst (λ (v : ℕ). Next v rest file) value next }
 
   pub number_stuck : (c : ℕ) → c ≢ end → (is_digit c ≡ true → most < 10 * n + (c - 48)) → ¬ Number most end n Next (c ∷ ys) file
   number_stuck c apart large h = stuck h.digits h.rest h.are_digits h.text_is h.small
@@ -70,7 +70,7 @@ module _ (most end : ℕ) (other : is_digit end ≡ false) (Next : ℕ → List 
       stuck [] rest all is small = let same : c ≡ end = cc in apart same
       stuck (d ∷ ds) rest all is small =
           let same : d ≡ c = cc in
-          let high = large (ap is_digit (sym same) ∙ (both_true (is_digit d) (list_all is_digit ds) all).0) in
+          let high = large (ap is_digit (sym same) ∙ (and_parts (is_digit d) (list_all is_digit ds) all).0) in
           let least = value_least (10 * n + (d - 48)) ds in
           let equal : 10 * n + (d - 48) ≡ 10 * n + (c - 48) = ap (λ (e : ℕ). 10 * n + (e - 48)) same in
           omega arith
@@ -197,7 +197,7 @@ module _ (lines : List (List ℕ)) (file : File) where
 
 -- a byte of a comment prints
 prints_at : (line more : List ℕ) (c : ℕ) → IsComment (line ++ c ∷ more) → is_printing c ≡ true
-prints_at line more c h = (both_true (is_printing c) (list_all is_printing more) (both_true (list_all is_printing line) (list_all is_printing (c ∷ more)) (sym (list_all-append is_printing line (c ∷ more)) ∙ h.prints)).1).0
+prints_at line more c h = (and_parts (is_printing c) (list_all is_printing more) (and_parts (list_all is_printing line) (list_all is_printing (c ∷ more)) (sym (list_all-append is_printing line (c ∷ more)) ∙ h.prints)).1).0
 
 module _ (lines : List (List ℕ)) (line : List ℕ) (file : File) where
   pub comment_end : (ys : List ℕ) → IsComment line → Comments lines line (10 ∷ ys) file ↔ Lines (lines ++ line ∷ []) ys file

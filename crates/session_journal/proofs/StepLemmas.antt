@@ -1,19 +1,19 @@
 -- Each byte at each place: the place behind it, or that no file goes on with it.
-use Rattle.std.proofs.Common.{◌≡◌, ◌≢◌, ◌↔◌, ℕ, zero, suc, ◌+◌, ◌-◌, ◌*◌, ◌<◌, ◌≤◌, nat_le, nat_lt, ◌++◌, [], ◌∷◌, List, Bool, true, false, cond, ◌&&◌, ◌==◌, length, Option, Some, None, refl, sym, subst, ◌∙◌, length-append, arith}
+use Rattle.std.proofs.Common.{◌≡◌, ◌↔◌, ℕ, zero, suc, ◌+◌, ◌-◌, ◌*◌, ◌<◌, ◌≤◌, nat_le, nat_lt, ◌++◌, [], ◌∷◌, List, Bool, true, false, cond, ◌&&◌, ◌==◌, length, Option, Some, None, refl, sym, subst, ◌∙◌, length-append, arith}
 use Rattle.std.specs.List.{list_all}
 use Rattle.std.specs.Option.{option_map}
 use Rattle.std.proofs.lemmas.List.Folds.{list_all-append}
+use Rattle.std.proofs.lemmas.Bool.{and_parts, and_from, eqb-true, eqb-false}
 use Rattle.std.proofs.lemmas.Bool.Decides.{nat_tests}
 use Rattle.session_journal.specs.declared.files.File.{File}
-use Rattle.session_journal.specs.declared.places.Place.{Place}
-use Rattle.session_journal.specs.declared.places.Place.TheVariants.{Magic, Line, Comment, Width, Blank, Height, Most, Raster}
+use Rattle.session_journal.specs.declared.places.Stage.{Stage}
+use Rattle.session_journal.specs.declared.places.Stage.TheVariants.{Magic, Line, Comment, Width, Blank, Height, Most, Raster}
 use Rattle.session_journal.specs.Grammar.{is_printing, IsComment}
 use Rattle.session_journal.specs.Places.{Behind, HeightOf, MostOf, RasterOf, Lines, Comments, Follows, IsPlace, is_digit, is_first_digit, place_after, lines_after, line_after}
-use Rattle.session_journal.proofs.NumberLemmas.{both_true, true_both}
 use Rattle.session_journal.proofs.PlaceLemmas.{behind_more, behind_other, behind_all, number_end, number_digit, number_stuck, whole_digit, whole_stuck, line_comment, line_size, comment_end, comment_more, comment_stuck}
 
 -- what a byte leaves: what may follow at the next place, or nothing
-abbrev pub GoesOn : Place → ℕ → List (List ℕ) → List ℕ → Option Place → Type 0
+abbrev pub GoesOn : Stage → ℕ → List (List ℕ) → List ℕ → Option Stage → Type 0
 GoesOn place c lines line None = (tail : List ℕ) (file : File) → ¬ Follows place lines line (c ∷ tail) file
 GoesOn place c lines line (Some next) =
     IsPlace next (line_after place c line)
@@ -22,17 +22,11 @@ GoesOn place c lines line (Some next) =
 pub both_ways : {A B C : Type 0} → A ↔ B → B ↔ C → A ↔ C
 both_ways f g = (λ a. g.0 (f.0 a), λ c. f.1 (g.1 c))
 
-equal_of : (c t : ℕ) → (c == t) ≡ true → c ≡ t
-equal_of c t h = grind (arith, nat_tests)
-
-apart_of : (c t : ℕ) → (c == t) ≡ false → c ≢ t
-apart_of c t h = grind (arith, nat_tests)
-
 byte_of : (t c : ℕ) (text : List ℕ) (Next : List ℕ → File → Type 0) → (c == t) ≡ true → (tail : List ℕ) (file : File) → Behind (t ∷ text) Next (c ∷ tail) file ↔ Behind text Next tail file
-byte_of t c text Next is tail file = subst (λ (k : ℕ). Behind (t ∷ text) Next (k ∷ tail) file ↔ Behind text Next tail file) (sym (equal_of c t is)) (behind_more text Next tail file t)
+byte_of t c text Next is tail file = subst (λ (k : ℕ). Behind (t ∷ text) Next (k ∷ tail) file ↔ Behind text Next tail file) (sym (eqb-true c t is)) (behind_more text Next tail file t)
 
 byte_not : (t c : ℕ) (text : List ℕ) (Next : List ℕ → File → Type 0) → (c == t) ≡ false → (tail : List ℕ) (file : File) → ¬ Behind (t ∷ text) Next (c ∷ tail) file
-byte_not t c text Next other tail file = behind_other text Next tail file t c (apart_of c t other)
+byte_not t c text Next other tail file = behind_other text Next tail file t c (eqb-false c t other)
 
 magic_goes : (read c : ℕ) (lines : List (List ℕ)) (line : List ℕ) → read < 3 → line ≡ [] → GoesOn (Magic read) c lines line (place_after (Magic read) (length line) c)
 magic_goes zero c lines line low empty = by_byte (c == 80) refl
@@ -84,14 +78,14 @@ line_goes c lines line empty = by_byte (c == 35) refl (is_first_digit c) refl
     by_byte : (a : Bool) → (c == 35) ≡ a → (b : Bool) → is_first_digit c ≡ b → GoesOn Line c lines line (cond a (Some Comment) (option_map (λ w. Width w) (cond b (Some (c - 48)) None)))
     by_byte true is b digit = (
       subst IsComment (sym empty) no_comment,
-      λ tail file. subst (λ (k : ℕ). Lines lines (k ∷ tail) file ↔ Comments lines line tail file) (sym (equal_of c 35 is))
+      λ tail file. subst (λ (k : ℕ). Lines lines (k ∷ tail) file ↔ Comments lines line tail file) (sym (eqb-true c 35 is))
           (subst (λ (l : List ℕ). Lines lines (35 ∷ tail) file ↔ Comments lines l tail file) (sym empty) (line_comment lines file tail)),
     )
     by_byte false is true digit =
         let low : 49 ≤ c = grind (arith, nat_tests) in
         let high : c ≤ 57 = grind (arith, nat_tests) in
-        ((omega arith, omega arith, empty), λ tail file. both_ways (line_size lines file tail c (apart_of c 35 is)) (whole_digit 640 32 (omega arith) (HeightOf lines) file tail c digit))
-    by_byte false is false digit = λ tail file h. whole_stuck 640 32 (omega arith) (HeightOf lines) file tail c digit ((line_size lines file tail c (apart_of c 35 is)).0 h)
+        ((omega arith, omega arith, empty), λ tail file. both_ways (line_size lines file tail c (eqb-false c 35 is)) (whole_digit 640 32 (omega arith) (HeightOf lines) file tail c digit))
+    by_byte false is false digit = λ tail file h. whole_stuck 640 32 (omega arith) (HeightOf lines) file tail c digit ((line_size lines file tail c (eqb-false c 35 is)).0 h)
 
 comment_goes : (c : ℕ) (lines : List (List ℕ)) (line : List ℕ) → IsComment line → GoesOn Comment c lines line (place_after Comment (length line) c)
 comment_goes c lines line ok = by_byte (c == 10) refl (is_printing c && nat_lt (length line) 64) refl
@@ -101,18 +95,18 @@ comment_goes c lines line ok = by_byte (c == 10) refl (is_printing c && nat_lt (
 
     by_byte : (a : Bool) → (c == 10) ≡ a → (b : Bool) → (is_printing c && nat_lt (length line) 64) ≡ b → GoesOn Comment c lines line (cond a (Some Line) (cond b (Some Comment) None))
     by_byte true is b more =
-        subst (λ (k : ℕ). GoesOn Comment k lines line (Some Line)) (sym (equal_of c 10 is)) (refl, λ tail file. comment_end lines line file tail ok)
+        subst (λ (k : ℕ). GoesOn Comment k lines line (Some Line)) (sym (eqb-true c 10 is)) (refl, λ tail file. comment_end lines line file tail ok)
     by_byte false is true more =
-        let prints = (both_true (is_printing c) (nat_lt (length line) 64) more).0 in
-        let room = (both_true (is_printing c) (nat_lt (length line) 64) more).1 in
+        let prints = (and_parts (is_printing c) (nat_lt (length line) 64) more).0 in
+        let room = (and_parts (is_printing c) (nat_lt (length line) 64) more).1 in
         let few : length line < 64 = grind (arith, nat_tests) in
         let longer : IsComment (line ++ c ∷ []) = record {
           short = omega (arith, length-append line (c ∷ []));
-          prints = list_all-append is_printing line (c ∷ []) ∙ true_both (list_all is_printing line) (list_all is_printing (c ∷ [])) ok.prints (true_both (is_printing c) true prints refl);
+          prints = list_all-append is_printing line (c ∷ []) ∙ and_from (list_all is_printing line) (list_all is_printing (c ∷ [])) ok.prints (and_from (is_printing c) true prints refl);
         } in
         subst (λ (b : Bool). IsComment (cond b [] (line ++ c ∷ [])) × ((tail : List ℕ) (file : File) → Comments lines line (c ∷ tail) file ↔ Comments (cond b (lines ++ line ∷ []) lines) (cond b [] (line ++ c ∷ [])) tail file)) (sym is)
         (longer, λ tail file. comment_more lines line file tail c prints)
-    by_byte false is false more = λ tail file. comment_stuck lines line file tail c (apart_of c 10 is) (λ prints. full (is_printing c) prints (nat_lt (length line) 64) refl more)
+    by_byte false is false more = λ tail file. comment_stuck lines line file tail c (eqb-false c 10 is) (λ prints. full (is_printing c) prints (nat_lt (length line) 64) refl more)
       where
         full : (p : Bool) → p ≡ true → (few : Bool) → nat_lt (length line) 64 ≡ few → (p && few) ≡ false → 64 ≤ length line
         full true h true low none = cc
@@ -133,28 +127,28 @@ width_goes w c lines line ok = by_byte (c == 32) refl (is_digit c && nat_le (10 
   where
     by_byte : (a : Bool) → (c == 32) ≡ a → (b : Bool) → (is_digit c && nat_le (10 * w + (c - 48)) 640) ≡ b
         → GoesOn (Width w) c lines line (cond a (Some (Blank w)) (option_map (λ n. Width n) (cond b (Some (10 * w + (c - 48))) None)))
-    by_byte true is b digit = subst (λ (k : ℕ). GoesOn (Width w) k lines line (Some (Blank w))) (sym (equal_of c 32 is)) ((ok.0, ok.1, ok.2), λ tail file. number_end 640 32 refl (HeightOf lines) tail file w ok.1)
+    by_byte true is b digit = subst (λ (k : ℕ). GoesOn (Width w) k lines line (Some (Blank w))) (sym (eqb-true c 32 is)) ((ok.0, ok.1, ok.2), λ tail file. number_end 640 32 refl (HeightOf lines) tail file w ok.1)
     by_byte false is true digit =
-        let parts = both_true (is_digit c) (nat_le (10 * w + (c - 48)) 640) digit in
+        let parts = and_parts (is_digit c) (nat_le (10 * w + (c - 48)) 640) digit in
         let test = parts.1 in
         let some = ok.0 in
         let fits : 10 * w + (c - 48) ≤ 640 = grind (arith, nat_tests) in
         ((omega arith, fits, ok.2), λ tail file. number_digit 640 32 refl (HeightOf lines) tail file w c parts.0)
-    by_byte false is false digit = λ tail file. number_stuck 640 32 refl (HeightOf lines) tail file w c (apart_of c 32 is) (too_large 640 w c digit)
+    by_byte false is false digit = λ tail file. number_stuck 640 32 refl (HeightOf lines) tail file w c (eqb-false c 32 is) (too_large 640 w c digit)
 
 height_goes : (w h c : ℕ) (lines : List (List ℕ)) (line : List ℕ) → IsPlace (Height w h) line → GoesOn (Height w h) c lines line (place_after (Height w h) (length line) c)
 height_goes w h c lines line ok = by_byte (c == 10) refl (is_digit c && nat_le (10 * h + (c - 48)) 480) refl
   where
     by_byte : (a : Bool) → (c == 10) ≡ a → (b : Bool) → (is_digit c && nat_le (10 * h + (c - 48)) 480) ≡ b
         → GoesOn (Height w h) c lines line (cond a (Some (Most w h 0)) (option_map (λ n. Height w n) (cond b (Some (10 * h + (c - 48))) None)))
-    by_byte true is b digit = subst (λ (k : ℕ). GoesOn (Height w h) k lines line (Some (Most w h 0))) (sym (equal_of c 10 is)) ((ok.0, ok.1, ok.2, ok.3, omega arith, ok.4), λ tail file. number_end 480 10 refl (MostOf lines w) tail file h ok.3)
+    by_byte true is b digit = subst (λ (k : ℕ). GoesOn (Height w h) k lines line (Some (Most w h 0))) (sym (eqb-true c 10 is)) ((ok.0, ok.1, ok.2, ok.3, omega arith, ok.4), λ tail file. number_end 480 10 refl (MostOf lines w) tail file h ok.3)
     by_byte false is true digit =
-        let parts = both_true (is_digit c) (nat_le (10 * h + (c - 48)) 480) digit in
+        let parts = and_parts (is_digit c) (nat_le (10 * h + (c - 48)) 480) digit in
         let test = parts.1 in
         let some = ok.2 in
         let fits : 10 * h + (c - 48) ≤ 480 = grind (arith, nat_tests) in
         ((ok.0, ok.1, omega arith, fits, ok.4), λ tail file. number_digit 480 10 refl (MostOf lines w) tail file h c parts.0)
-    by_byte false is false digit = λ tail file. number_stuck 480 10 refl (MostOf lines w) tail file h c (apart_of c 10 is) (too_large 480 h c digit)
+    by_byte false is false digit = λ tail file. number_stuck 480 10 refl (MostOf lines w) tail file h c (eqb-false c 10 is) (too_large 480 h c digit)
 
 blank_goes : (w c : ℕ) (lines : List (List ℕ)) (line : List ℕ) → IsPlace (Blank w) line → GoesOn (Blank w) c lines line (place_after (Blank w) (length line) c)
 blank_goes w c lines line ok = by_byte (is_first_digit c) refl
@@ -167,7 +161,7 @@ blank_goes w c lines line ok = by_byte (is_first_digit c) refl
     by_byte false digit = λ tail file. whole_stuck 480 10 (omega arith) (MostOf lines w) file tail c digit
 
 -- a byte at each place before the raster
-pub goes_on : (place : Place) (c : ℕ) (lines : List (List ℕ)) (line : List ℕ) → IsPlace place line → ((w h : ℕ) → place ≡ Raster w h → ⊥) → GoesOn place c lines line (place_after place (length line) c)
+pub goes_on : (place : Stage) (c : ℕ) (lines : List (List ℕ)) (line : List ℕ) → IsPlace place line → ((w h : ℕ) → place ≡ Raster w h → ⊥) → GoesOn place c lines line (place_after place (length line) c)
 goes_on (Magic read) c lines line ok before = magic_goes read c lines line ok.0 ok.1
 goes_on Line c lines line ok before = line_goes c lines line ok
 goes_on Comment c lines line ok before = comment_goes c lines line ok

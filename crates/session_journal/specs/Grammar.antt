@@ -23,6 +23,10 @@ pub record IsFile (bytes : List ℕ) (file : File) : Type 0 where
   pub size : IsScreen file.size
   pub raster : length file.raster ≡ 3 * (file.size.w * file.size.h)
 
+-- the bytes are no other file
+abbrev pub IsOnlyFile : List ℕ → File → Type 0
+IsOnlyFile bytes file = (other : File) → IsFile bytes other → other ≡ file
+
 -- some file begins with these bytes
 pub record BeginsFile (front : List ℕ) : Type 0 where
   pub rest : List ℕ

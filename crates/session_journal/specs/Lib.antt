@@ -1,3 +1,4 @@
+pub mod Commented
 pub mod Texts
 pub mod Printed
 pub mod Grammar

@@ -5,8 +5,8 @@ use Rattle.std.specs.List.{list_all, flat_map}
 use Rattle.std.specs.Option.{option_map}
 use Rattle.std.specs.Fmt.{decimal}
 use Rattle.session_journal.specs.declared.files.File.{File}
-use Rattle.session_journal.specs.declared.places.Place.{Place}
-use Rattle.session_journal.specs.declared.places.Place.TheVariants.{Magic, Line, Comment, Width, Blank, Height, Most, Raster}
+use Rattle.session_journal.specs.declared.places.Stage.{Stage}
+use Rattle.session_journal.specs.declared.places.Stage.TheVariants.{Magic, Line, Comment, Width, Blank, Height, Most, Raster}
 use Rattle.session_journal.specs.Texts.{line_text}
 use Rattle.session_journal.specs.Grammar.{is_printing, IsComment, IsFile}
 
@@ -84,7 +84,7 @@ pub record Comments (lines : List (List ℕ)) (line tail : List ℕ) (file : Fil
 -- ---- the places of a reader
 
 -- what may follow at a place, behind these comments and the comment so far
-abbrev pub Follows : Place → List (List ℕ) → List ℕ → List ℕ → File → Type 0
+abbrev pub Follows : Stage → List (List ℕ) → List ℕ → List ℕ → File → Type 0
 Follows (Magic read) lines line = Behind (drop read (codes "P6\n")) (Lines lines)
 Follows Line lines line = Lines lines
 Follows Comment lines line = Comments lines line
@@ -95,7 +95,7 @@ Follows (Most w h read) lines line = Behind (drop read (codes "255\n")) (RasterO
 Follows (Raster w h) lines line = RasterOf lines w h
 
 -- the numbers of a place are those of files
-abbrev pub IsPlace : Place → List ℕ → Type 0
+abbrev pub IsPlace : Stage → List ℕ → Type 0
 IsPlace (Magic read) line = (read < 3) × (line ≡ [])
 IsPlace Line line = line ≡ []
 IsPlace Comment line = IsComment line
@@ -114,7 +114,7 @@ abbrev pub first_digit : ℕ → Option ℕ
 first_digit c = if is_first_digit c then Some (c - 48) else None
 
 -- the place behind a byte, with the length of the comment so far; none where no file goes on with it
-abbrev pub place_after : Place → ℕ → ℕ → Option Place
+abbrev pub place_after : Stage → ℕ → ℕ → Option Stage
 place_after (Magic read) len c = if c == slice_index (codes "P6\n") read then Some (if read == 2 then Line else Magic (read + 1)) else None
 place_after Line len c = if c == 35 then Some Comment else option_map (λ w. Width w) (first_digit c)
 place_after Comment len c = if c == 10 then Some Line else (if is_printing c && nat_lt len 64 then Some Comment else None)
@@ -125,7 +125,7 @@ place_after (Most w h read) len c = if c == slice_index (codes "255\n") read the
 place_after (Raster w h) len c = None
 
 -- the comments, and the comment so far, behind a byte
-abbrev pub lines_after : Place → ℕ → List (List ℕ) → List ℕ → List (List ℕ)
+abbrev pub lines_after : Stage → ℕ → List (List ℕ) → List ℕ → List (List ℕ)
 lines_after (Magic read) c lines line = lines
 lines_after Line c lines line = lines
 lines_after Comment c lines line = if c == 10 then lines ++ line ∷ [] else lines
@@ -135,7 +135,7 @@ lines_after (Height w h) c lines line = lines
 lines_after (Most w h read) c lines line = lines
 lines_after (Raster w h) c lines line = lines
 
-abbrev pub line_after : Place → ℕ → List ℕ → List ℕ
+abbrev pub line_after : Stage → ℕ → List ℕ → List ℕ
 line_after (Magic read) c line = line
 line_after Line c line = line
 line_after Comment c line = if c == 10 then [] else line ++ c ∷ []
@@ -146,7 +146,7 @@ line_after (Most w h read) c line = line
 line_after (Raster w h) c line = line
 
 -- the numbers of a place are small
-abbrev pub IsWithin : Place → Type 0
+abbrev pub IsWithin : Stage → Type 0
 IsWithin (Magic read) = read < 3
 IsWithin Line = Unit {0}
 IsWithin Comment = Unit {0}
@@ -157,5 +157,5 @@ IsWithin (Most w h read) = (w ≤ 640) × (h ≤ 480) × (read < 4)
 IsWithin (Raster w h) = (w ≤ 640) × (h ≤ 480)
 
 -- the first bytes, so many, lead to a place: what may follow there are the tails of files that begin with them
-abbrev pub Leads : List ℕ → ℕ → Place → List (List ℕ) → List ℕ → Type 0
+abbrev pub Leads : List ℕ → ℕ → Stage → List (List ℕ) → List ℕ → Type 0
 Leads bytes at place lines line = (tail : List ℕ) (file : File) → IsFile (take at bytes ++ tail) file ↔ Follows place lines line tail file

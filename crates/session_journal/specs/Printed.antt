@@ -1,4 +1,4 @@
--- Replies whose numbers print: they are below 2^64.
+-- Replies whose numbers print: they are those of 32 bits, and lengths and counts of pixels of 64.
 use Rattle.std.specs.Prelude.{ℕ, ◌<◌, ◌^◌, nat_abs, length, ⊤}
 use Rattle.qws_base.specs.declared.replies.Event.{Event}
 use Rattle.qws_base.specs.declared.replies.Event.TheVariants.{Message, RegionModified}
@@ -9,9 +9,13 @@ use Rattle.qws_base.specs.declared.replies.PaintReply.TheVariants.{Painted, Gone
 use Rattle.qws_base.specs.declared.replies.Refusal.{Refusal}
 use Rattle.qws_base.specs.declared.replies.Refusal.TheVariants.{NoWindow, NotYours, NoSlot, BadLayer, BadRegion, TooComplex, OffScreen, BadShape, Joined, TooManyChannels, BadName, NotJoined, NoChannel, MailboxFull, TooLarge, Empty}
 
--- numbers that print
+-- numbers of 32 bits
 abbrev pub IsPrinted : ℕ → Type 0
-IsPrinted n = n < 2 ^ 64
+IsPrinted n = n < 2 ^ 32
+
+-- numbers of 64 bits
+abbrev pub IsCount : ℕ → Type 0
+IsCount n = n < 2 ^ 64
 
 abbrev pub PrintsRefusal : Refusal → Type 0
 PrintsRefusal (NoWindow slot) = IsPrinted slot
@@ -32,7 +36,7 @@ PrintsRefusal (TooLarge len) = IsPrinted len
 PrintsRefusal Empty = ⊤
 
 abbrev pub PrintsEvent : Event → Type 0
-PrintsEvent (Message channel from message payload) = IsPrinted from × IsPrinted (length payload)
+PrintsEvent (Message channel from message payload) = IsPrinted from × IsCount (length payload)
 PrintsEvent (RegionModified slot) = IsPrinted slot
 
 abbrev pub PrintsReply : Reply → Type 0
@@ -44,5 +48,5 @@ PrintsReply (EventReply event) = PrintsEvent event
 PrintsReply (Refused cause) = PrintsRefusal cause
 
 abbrev pub PrintsPaint : PaintReply → Type 0
-PrintsPaint (Painted pixels) = IsPrinted pixels
+PrintsPaint (Painted pixels) = IsCount pixels
 PrintsPaint Gone = ⊤

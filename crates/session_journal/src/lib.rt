@@ -4,6 +4,7 @@
 mod files;
 mod histories;
 mod merging;
+mod naming;
 mod places;
 mod reading;
 mod texts;
@@ -12,5 +13,6 @@ mod writing;
 pub use files::{File, FileStop, Lines};
 pub use histories::{Entry, History};
 pub use merging::merge;
+pub use naming::{client_named, comments_name_clients};
 pub use reading::read_file;
-pub use writing::{push_paint_comment, push_step_comment, write_file};
+pub use writing::{push_paint_comment, push_picture, push_step_comment, write_file};

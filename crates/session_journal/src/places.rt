@@ -5,7 +5,7 @@ ghost use Rattle.session_journal.specs.Places.{IsWithin, place_after, first_digi
 
 /// Where a reader of a file stands.
 #[derive(Clone, Copy)]
-pub enum Place {
+pub enum Stage {
     /// Behind so many bytes of `P6` and its line end.
     Magic { read: usize },
     /// At the beginning of a line, which is a comment or has the size.
@@ -56,31 +56,31 @@ fn is_printing(byte: u8) -> bool
 
 /// The place behind a byte, if some file goes on with it there; `len` is the length of the comment so far. Not asked
 /// before the raster.
-pub fn place_after(place: Place, len: usize, byte: u8) -> Option<Place>
+pub fn place_after(place: Stage, len: usize, byte: u8) -> Option<Stage>
     requires { IsWithin place }
     ensures { result ≡ place_after place len byte }
 {
     match place {
-        Place::Magic { read } if byte != b"P6\n"[read] => None,
-        Place::Magic { read: 2 } => Some(Place::Line),
-        Place::Magic { read } => Some(Place::Magic { read: read + 1 }),
-        Place::Line if byte == b'#' => Some(Place::Comment),
-        Place::Line => first_digit(byte).map(|w| Place::Width { w }),
-        Place::Comment if byte == b'\n' => Some(Place::Line),
-        Place::Comment if is_printing(byte) && len < 64 => Some(Place::Comment),
-        Place::Comment => None,
-        Place::Width { w } if byte == b' ' => Some(Place::Blank { w }),
-        Place::Width { w } => with_digit(640, w, byte).map(|w| Place::Width { w }),
-        Place::Blank { w } => first_digit(byte).map(|h| Place::Height { w, h }),
-        Place::Height { w, h } if byte == b'\n' => Some(Place::Most { w, h, read: 0 }),
-        Place::Height { w, h } => with_digit(480, h, byte).map(|h| Place::Height { w, h }),
-        Place::Most { read, .. } if byte != b"255\n"[read] => None,
-        Place::Most { w, h, read: 3 } => Some(Place::Raster { w, h }),
-        Place::Most { w, h, read } => Some(Place::Most {
+        Stage::Magic { read } if byte != b"P6\n"[read] => None,
+        Stage::Magic { read: 2 } => Some(Stage::Line),
+        Stage::Magic { read } => Some(Stage::Magic { read: read + 1 }),
+        Stage::Line if byte == b'#' => Some(Stage::Comment),
+        Stage::Line => first_digit(byte).map(|w| Stage::Width { w }),
+        Stage::Comment if byte == b'\n' => Some(Stage::Line),
+        Stage::Comment if is_printing(byte) && len < 64 => Some(Stage::Comment),
+        Stage::Comment => None,
+        Stage::Width { w } if byte == b' ' => Some(Stage::Blank { w }),
+        Stage::Width { w } => with_digit(640, w, byte).map(|w| Stage::Width { w }),
+        Stage::Blank { w } => first_digit(byte).map(|h| Stage::Height { w, h }),
+        Stage::Height { w, h } if byte == b'\n' => Some(Stage::Most { w, h, read: 0 }),
+        Stage::Height { w, h } => with_digit(480, h, byte).map(|h| Stage::Height { w, h }),
+        Stage::Most { read, .. } if byte != b"255\n"[read] => None,
+        Stage::Most { w, h, read: 3 } => Some(Stage::Raster { w, h }),
+        Stage::Most { w, h, read } => Some(Stage::Most {
             w,
             h,
             read: read + 1,
         }),
-        Place::Raster { .. } => None,
+        Stage::Raster { .. } => None,
     }
 }

@@ -1,17 +1,17 @@
 //! From bytes to a file.
 ghost use Rattle.std.specs.Prelude.{◌≡◌, ◌≤◌, ◌++◌, length, [], OnOk, IfOk, IfErr};
-ghost use Rattle.session_journal.specs.Grammar.{IsFile, Stops};
+ghost use Rattle.session_journal.specs.Grammar.{IsFile, IsOnlyFile, Stops};
 ghost use Rattle.session_journal.specs.Places.{IsPlace, Leads, lines_after, line_after};
 
 use crate::files::{File, FileStop, Lines};
-use crate::places::{Place, place_after};
+use crate::places::{Stage, place_after};
 use qws_base::{Bytes, Size};
 use std::alloc::Global;
 
 // The comments, and the comment so far, behind a byte.
 fn keep(
     alloc: Global,
-    place: Place,
+    place: Stage,
     byte: u8,
     lines: &mut Vec<Bytes>,
     line: &mut Vec<u8>,
@@ -21,11 +21,11 @@ fn keep(
     ensures stop { IfErr result (λ stop. stop ≡ FileStop.OutOfMemory) }
 {
     match place {
-        Place::Comment if byte == b'\n' => {
+        Stage::Comment if byte == b'\n' => {
             lines.push(Bytes::of(line.as_slice().to_vec(alloc)?))?;
             line.clear();
         }
-        Place::Comment => line.push(byte)?,
+        Stage::Comment => line.push(byte)?,
         _ => {}
     }
     Ok(())
@@ -41,9 +41,10 @@ fn with_raster(
     h: u32,
 ) -> Result<File, FileStop>
     requires within { at ≤ length bytes.now }
-    requires place { IsPlace (Place.Raster w h) [] }
-    requires leads { Leads bytes.now at (Place.Raster w h) lines.items [] }
+    requires place { IsPlace (Stage.Raster w h) [] }
+    requires leads { Leads bytes.now at (Stage.Raster w h) lines.items [] }
     ensures ok { IfOk result (IsFile bytes.now) }
+    ensures one { IfOk result (IsOnlyFile bytes.now) }
     ensures stop { IfErr result (Stops bytes.now) }
 {
     let Some(size) = Size::new(w, h) else {
@@ -68,13 +69,14 @@ fn with_raster(
 /// them with which some file begins.
 pub fn read_file(alloc: Global, bytes: &[u8]) -> Result<File, FileStop>
     ensures ok { IfOk result (IsFile bytes.now) }
+    ensures one { IfOk result (IsOnlyFile bytes.now) }
     ensures stop { IfErr result (Stops bytes.now) }
 {
-    let mut place = Place::Magic { read: 0 };
+    let mut place = Stage::Magic { read: 0 };
     let mut lines = Vec::new(alloc);
     let mut line = Vec::new(alloc);
     for (at, byte) in bytes.iter().enumerate() {
-        if let Place::Raster { w, h } = place {
+        if let Stage::Raster { w, h } = place {
             return with_raster(alloc, bytes, at, lines, w, h);
         }
         let Some(next) = place_after(place, line.len(), *byte) else {

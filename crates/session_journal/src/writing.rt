@@ -1,8 +1,9 @@
 //! The bytes of a file.
-ghost use Rattle.std.specs.Prelude.{◌≡◌, ◌++◌, length, map, OnOk, IfOk, string_bytes};
+ghost use Rattle.std.specs.Prelude.{◌≡◌, ◌++◌, ◌<◌, ◌^◌, length, map, All, OnOk, IfOk, string_bytes};
 ghost use Rattle.std.specs.List.{flat_map};
 ghost use Rattle.session_journal.specs.Texts.{told, entries_of, reply_words, paint_words, comment, comments, line_text, head_text, colour_bytes, file_bytes, file_of_entries};
-ghost use Rattle.session_journal.specs.Printed.{PrintsReply, PrintsPaint};
+ghost use Rattle.session_journal.specs.Grammar.{IsComment, IsFile};
+ghost use Rattle.qws_base.specs.Points.{pixel_count};
 
 use crate::histories::{Entry, History};
 use crate::texts::{paint_text, reply_text};
@@ -35,7 +36,7 @@ pub fn push_step_comment(
     reply: &Reply,
 ) -> Result<(), OutOfMemory>
     ensures comment { OnOk result (out.new.items ≡ out.old.items ++ comment client number (reply_words reply.now)) }
-    ensures prints { PrintsReply reply.now }
+    ensures line { number < 2 ^ 32 → IsComment (comment client number (reply_words reply.now)) }
 {
     let words = reply_text(alloc, reply)?;
     push_words(alloc, out, client, number, &words)
@@ -50,7 +51,7 @@ pub fn push_paint_comment(
     reply: PaintReply,
 ) -> Result<(), OutOfMemory>
     ensures comment { OnOk result (out.new.items ≡ out.old.items ++ comment client number (paint_words reply)) }
-    ensures prints { PrintsPaint reply }
+    ensures line { number < 2 ^ 32 → IsComment (comment client number (paint_words reply)) }
 {
     let words = paint_text(alloc, reply)?;
     push_words(alloc, out, client, number, &words)
@@ -63,7 +64,8 @@ fn push_line(
     number: u64,
     entry: &Entry,
 ) -> Result<(), OutOfMemory>
-    ensures { OnOk result (out.new.items ≡ out.old.items ++ line_text (comment (told entry.now).client number (told entry.now).words)) }
+    ensures text { OnOk result (out.new.items ≡ out.old.items ++ line_text (comment (told entry.now).client number (told entry.now).words)) }
+    ensures line { number < 2 ^ 32 → OnOk result (IsComment (comment (told entry.now).client number (told entry.now).words)) }
 {
     out.push(b'#')?;
     match entry {
@@ -88,7 +90,8 @@ fn client_of(entry: &Entry) -> u32
 
 // The lines of all entries.
 fn push_lines(alloc: Global, out: &mut Vec<u8>, entries: &[Entry]) -> Result<(), OutOfMemory>
-    ensures { OnOk result (out.new.items ≡ out.old.items ++ flat_map line_text (comments (map told entries.now))) }
+    ensures text { OnOk result (out.new.items ≡ out.old.items ++ flat_map line_text (comments (map told entries.now))) }
+    ensures lines { length entries.now < 2 ^ 32 → OnOk result (All IsComment (comments (map told entries.now))) }
 {
     let mut counts = HashMap::new(alloc);
     for entry in entries {
@@ -128,19 +131,35 @@ fn push_raster(out: &mut Vec<u8>, shown: &[u32]) -> Result<(), OutOfMemory>
     Ok(())
 }
 
+/// Adds what stands behind the comments of a file: the size of the screen in pixels, and the colours of the shown pixels by
+/// rows.
+pub fn push_picture(
+    alloc: Global,
+    out: &mut Vec<u8>,
+    size: Size,
+    shown: &[u32],
+) -> Result<(), OutOfMemory>
+    ensures { OnOk result (out.new.items ≡ out.old.items ++ (head_text size ++ flat_map colour_bytes shown.now)) }
+{
+    push_head(alloc, out, size)?;
+    push_raster(out, shown)
+}
+
 /// The file of a history: a comment for each entry, the size of the screen in pixels, and the colours of the shown pixels
-/// by rows.
+/// by rows. With a colour for each pixel it is in the grammar of files, if there are fewer than 2^32 entries.
 pub fn write_file(
     alloc: Global,
     size: Size,
     history: &History,
     shown: &[u32],
 ) -> Result<Vec<u8>, OutOfMemory>
-    ensures { IfOk result (λ bytes. bytes.items ≡ file_bytes (file_of_entries size (map told history.now) shown.now)) }
+    ensures text { IfOk result (λ bytes. bytes.items ≡ file_bytes (file_of_entries size (map told history.now) shown.now)) }
+    ensures file { length history.now < 2 ^ 32 → length shown.now ≡ pixel_count size
+        → IfOk result (λ bytes. IsFile bytes.items (file_of_entries size (map told history.now) shown.now)) }
 {
+    let _width = size.w();
     let mut out = b"P6\n".to_vec(alloc)?;
     push_lines(alloc, &mut out, history.as_slice())?;
-    push_head(alloc, &mut out, size)?;
-    push_raster(&mut out, shown)?;
+    push_picture(alloc, &mut out, size, shown)?;
     Ok(out)
 }

@@ -1,7 +1,7 @@
 use Rattle.std.proofs.Common.{◌≡◌, ◌↔◌, ◌+◌, ◌++◌, ◌∷◌, [], ℕ, List, length, take, get_or, None, Some, Option, sym, ap, subst, ◌∙◌, append_assoc, arith}
 use Rattle.std.proofs.lemmas.List.{take_more}
-use Rattle.session_journal.specs.declared.places.Place.{Place}
-use Rattle.session_journal.specs.declared.places.Place.TheVariants.{Magic}
+use Rattle.session_journal.specs.declared.places.Stage.{Stage}
+use Rattle.session_journal.specs.declared.places.Stage.TheVariants.{Magic}
 use Rattle.session_journal.specs.Grammar.{IsFile, LeavesAt}
 use Rattle.session_journal.specs.Places.{Follows, IsPlace, place_after, lines_after, line_after}
 use Rattle.session_journal.proofs.StepLemmas.{GoesOn, goes_on, both_ways}
@@ -16,7 +16,7 @@ loop-at-init c = record {
 
 pub with_raster-requires-clause-leads : goal.with_raster-requires-clause-leads
 with_raster-requires-clause-leads c =
-    λ tail file. subst (λ (p : Place). IsFile (take c.loop-at.at c.args.bytes.now ++ tail) file ↔ Follows p c.loop-at.lines.items c.loop-at.line.items tail file) c.in-Raster.is (c.loop-at.invariant.leads tail file)
+    λ tail file. subst (λ (p : Stage). IsFile (take c.loop-at.at c.args.bytes.now ++ tail) file ↔ Follows p c.loop-at.lines.items c.loop-at.line.items tail file) c.in-Raster.is (c.loop-at.invariant.leads tail file)
 
 pub returns-in_default-place_after : goal.returns-in_default-place_after
 returns-in_default-place_after c =
@@ -28,8 +28,8 @@ returns-in_default-place_after c =
     let byte = get_or bytes at 0 in
     let len : length line ≡ c.len.result = sym c.loop-at.line.ok.0 ∙ sym c.len.ensures in
     let none : place_after place (length line) byte ≡ None = ap (λ (n : ℕ). place_after place n byte) len ∙ sym c.place_after.ensures ∙ c.in_default-place_after.is in
-    let goes : GoesOn place byte lines line None = subst (λ (o : Option Place). GoesOn place byte lines line o) none (goes_on place byte lines line c.loop-at.invariant.ok c.in_default.not-Raster) in
-    record { ok = tt; stop = leaves bytes at place lines line (let below = c.loop-at-test.true in omega arith) c.loop-at.invariant.ok c.loop-at.invariant.leads (λ below. goes) }
+    let goes : GoesOn place byte lines line None = subst (λ (o : Option Stage). GoesOn place byte lines line o) none (goes_on place byte lines line c.loop-at.invariant.ok c.in_default.not-Raster) in
+    record { ok = tt; one = tt; stop = leaves bytes at place lines line (let below = c.loop-at-test.true in omega arith) c.loop-at.invariant.ok c.loop-at.invariant.leads (λ below. goes) }
 
 pub loop-at-preserved : goal.loop-at-preserved
 loop-at-preserved c =
@@ -42,7 +42,7 @@ loop-at-preserved c =
     let byte = get_or bytes at 0 in
     let len : length line ≡ c.len.result = sym c.loop-at.line.ok.0 ∙ sym c.len.ensures in
     let some : place_after place (length line) byte ≡ Some next = ap (λ (n : ℕ). place_after place n byte) len ∙ sym c.place_after.ensures ∙ c.in-Some.is in
-    let goes : GoesOn place byte lines line (Some next) = subst (λ (o : Option Place). GoesOn place byte lines line o) some (goes_on place byte lines line c.loop-at.invariant.ok c.in_default.not-Raster) in
+    let goes : GoesOn place byte lines line (Some next) = subst (λ (o : Option Stage). GoesOn place byte lines line o) some (goes_on place byte lines line c.loop-at.invariant.ok c.in_default.not-Raster) in
     let kept_lines : c.keep.new.lines.items ≡ lines_after place byte lines line = c.in_ok-keep.ensures.lines in
     let kept_line : c.keep.new.line.items ≡ line_after place byte line = c.in_ok-keep.ensures.line in
     record {

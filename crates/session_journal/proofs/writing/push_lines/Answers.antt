@@ -1,10 +1,12 @@
-use Rattle.std.proofs.Common.{◌≡◌, ◌+◌, ◌++◌, ◌∷◌, [], ℕ, List, map, take, unwrap_or, nat_eq, Option, ap, sym, ◌∙◌, length-take, arith}
+use Rattle.std.proofs.Common.{◌≡◌, ◌+◌, ◌++◌, ◌∷◌, [], ℕ, List, map, take, unwrap_or, nat_eq, Option, subst, ap, sym, ◌∙◌, length-take, arith}
+use Rattle.std.specs.Prelude.{All}
 use Rattle.std.specs.HashMap.{get}
 use Rattle.std.specs.List.{flat_map}
 use Rattle.std.proofs.lemmas.List.{map_more, length-map}
 use Rattle.session_journal.specs.declared.histories.Entry.{Entry}
 use Rattle.session_journal.specs.Texts.{Told, told, entries_of, comment, comments, line_text}
-use Rattle.session_journal.proofs.LineLemmas.{entries_of-within, counted_more, lines_more}
+use Rattle.session_journal.specs.Grammar.{IsComment}
+use Rattle.session_journal.proofs.LineLemmas.{entries_of-within, counted_more, lines_more, all_more}
 use Rattle.session_journal.proofs.writing.push_lines.Goals as goal
 
 pub overflow_add-number : goal.overflow_add-number
@@ -28,7 +30,11 @@ loop-entry-preserved c =
     record {
       counts = λ q. counted_more (get nat_eq c.loop-entry.counts) (get nat_eq c.insert.new.self) client c.unwrap_or-number.result some (told entry) c.client_of-client.ensures number c.loop-entry.invariant.counts c.in_ok-insert.ensures.updates.0 q
           ∙ ap (entries_of q) (sym more);
+      lines = λ few.
+          let line : IsComment (comment (told entry).client c.unwrap_or-number.result (told entry).words) = c.in_ok-push_line.ensures.line (omega (arith, number, entries_of-within client some, length-map (take at entries) told, length-take at entries)) in
+          subst (λ (l : List Told). All IsComment (comments l)) (sym more)
+          (all_more some (told entry) client c.unwrap_or-number.result c.client_of-client.ensures number (c.loop-entry.invariant.lines few) line);
       out = lines_more c.args.out.now.items c.push_line.new.out.items some (told entry) client c.unwrap_or-number.result c.client_of-client.ensures number
-          (c.in_ok-push_line.ensures ∙ ap (λ (l : List ℕ). l ++ line_text (comment (told entry).client c.unwrap_or-number.result (told entry).words)) c.loop-entry.invariant.out)
+          (c.in_ok-push_line.ensures.text ∙ ap (λ (l : List ℕ). l ++ line_text (comment (told entry).client c.unwrap_or-number.result (told entry).words)) c.loop-entry.invariant.out)
           ∙ ap (λ (l : List Told). c.args.out.now.items ++ flat_map line_text (comments l)) (sym more);
     }
