@@ -7,24 +7,21 @@ use Rattle.qws_base.specs.Points.{spans, pixel_count}
 use Rattle.region_table.specs.Numbers.{pixel_word, IsLineWord}
 use Rattle.turn_logs.specs.Tables.{owner_in, RowHas, IsTable}
 use Rattle.fb_words.specs.Rights.{cell_over, IsSavedOver, IsWordOf, IsGiven}
+use Rattle.std.proofs.lemmas.Bool.{and_parts}
 use Rattle.turn_logs.proofs.Options.{none_some, same_some}
-
-both : (a b : Bool) → (a && b) ≡ true → (a ≡ true) × (b ≡ true)
-both true b h = (refl, h)
-both false b h = cc
 
 -- how far a spanned coordinate is from the start
 side : (low at n d : ℕ) → spans (pos low) n (pos at) ≡ true → nat_abs (pos at -ℤ pos low) ≡ d → (at ≡ low + d)
 side low at n d h e =
-    let parts = both (int_le (pos low) (pos at)) (int_lt (pos at) (pos low +ℤ pos n)) h in grind (arith, ints)
+    let parts = and_parts (int_le (pos low) (pos at)) (int_lt (pos at) (pos low +ℤ pos n)) h in grind (arith, ints)
 
 placed : (x y w h px py column row : ℕ) (shown b : Bool) → (shown && (spans (pos x) w (pos px) && spans (pos y) h (pos py))) ≡ b
     → (if b then Some (let t : ℕ × ℕ = (nat_abs (pos px -ℤ pos x), nat_abs (pos py -ℤ pos y)) in t) else None) ≡ Some (column, row) → (px ≡ x + column) × (py ≡ y + row)
 placed x y w h px py column row shown false is e = none_some {A = ℕ × ℕ} (column, row) e
 placed x y w h px py column row shown true is e =
     let same = same_some {A = ℕ × ℕ} (nat_abs (pos px -ℤ pos x), nat_abs (pos py -ℤ pos y)) (column, row) e in
-    let on = (both shown (spans (pos x) w (pos px) && spans (pos y) h (pos py)) is).1 in
-    let parts = both (spans (pos x) w (pos px)) (spans (pos y) h (pos py)) on in
+    let on = (and_parts shown (spans (pos x) w (pos px) && spans (pos y) h (pos py)) is).1 in
+    let parts = and_parts (spans (pos x) w (pos px)) (spans (pos y) h (pos py)) on in
     (side x px w column parts.0 (ap (λ t. t.0) same), side y py h row parts.1 (ap (λ t. t.1) same))
 
 -- the place of the pixel under a cell

@@ -1,5 +1,5 @@
 -- Where all clients sit, the closed turns that a desk has kept are a whole session.
-use Rattle.std.proofs.Common.{◌≡◌, ℕ, zero, suc, ◌+◌, ◌<◌, ◌≤◌, ◌==◌, nat_lt, if◌then◌else◌, Bool, true, false, List, [], ◌∷◌, ◌++◌, map, length, get_or, length-append, sym, refl, ap, ◌∙◌, subst, ⊎_elim, arith}
+use Rattle.std.proofs.Common.{◌≡◌, ℕ, zero, suc, ◌+◌, ◌<◌, ◌≤◌, ◌==◌, nat_lt, if◌then◌else◌, Bool, true, false, List, [], ◌∷◌, ◌++◌, map, length, length-append, sym, refl, ap, ◌∙◌, subst, ⊎_elim, arith}
 use Rattle.std.specs.Prelude.{slice_index, slice_index_or}
 use Rattle.std.specs.List.{fold, flat_map, range_with_len}
 use Rattle.std.proofs.lemmas.Bool.Decides.{nat_tests}
@@ -41,6 +41,7 @@ use Rattle.fb_words.specs.Views.{client_of, paints_in}
 use Rattle.fb_words.specs.Rule.{CallOk}
 use Rattle.turn_logs.specs.Carries.{words_after, CarriesPaintUnder, RepliesUnder}
 use Rattle.turn_logs.specs.Sessions.{ClosedTurn, Served, Drawn, entry_of, logs_of, table_after, stamp_after, SessionLaw, PictureLaw, IsServed, AreCarried}
+use Rattle.qws_base.proofs.ListLemmas.{item_at}
 use Rattle.fb_words.proofs.ByNumber.{drawn_of, drawn_at, nth_served, served_at, turns_by, turns_are}
 use Rattle.fb_words.specs.Steps.{AllIdle, AllHere, arranged, Knows}
 use Rattle.fb_words.specs.Desks.{state_upto, state_after, IsKeptTurn, AreKeptTurns, KeepingLaw, journal_from, journal_of, stamped_paint, history_of, paints_of, WholeLaw}
@@ -222,11 +223,6 @@ all_drawn setting tables e t [] at ok = tt
 all_drawn setting tables e t (p ∷ cs) at ok = drawn_append setting (table_of t) (drawn_at e p) (flat_map (drawn_at e) cs) (own_drawn setting tables p.number e t p.own at (ok 0 p refl)) (all_drawn setting tables e t cs at (λ c q b. ok (suc c) q b))
 
 -- ---- the server's turns
-
-item_at : {A : Type 0} (l : List A) (k : ℕ) (a d : A) → get_elem? l k ≡ some a → get_or l k d ≡ a
-item_at [] k a d e = absurd (some-ne-none a (sym e))
-item_at (x ∷ l) zero a d e = some-injective x a e
-item_at (x ∷ l) (suc k) a d e = item_at l k a d e
 
 served_is : (tables : List (List ℕ)) (n : ℕ) (ts : List Closed) (k : ℕ) (t : Closed) → get_elem? ts k ≡ some t
     → nth_served tables n ts k ≡ Served t.client t.command t.reply (table_of (slice_index_or tables n [])) t.log ∷ []

@@ -41,7 +41,7 @@ pub revision_from_one : (p : Client) (i n : ℕ) → reading p ≡ 1 → Sees (a
 revision_from_one p i n reads v s low at = let now : revision_in v.table s ≡ n = ap (λ x. Rattle.std.specs.Prelude.slice_index v.table x) (sym at) ∙ value_seen p i n reads v in subst (λ x. 1 ≤ x) now (v.is_table.revisions s low)
 
 -- looks of one word after another are those of all
-looks_together : (looked : List Looked) (i : ℕ) (values : List ℕ) → ((j value : ℕ) → get_elem? values j ≡ some value → look_of looked (i + j) ≡ Some value) → looks_of looked i (length values) ≡ Some values
+pub looks_together : (looked : List Looked) (i : ℕ) (values : List ℕ) → ((j value : ℕ) → get_elem? values j ≡ some value → look_of looked (i + j) ≡ Some value) → looks_of looked i (length values) ≡ Some values
 looks_together looked i [] each = refl
 looks_together looked i (v ∷ values) each =
     ap (λ o. with_first o (looks_of looked (i + 1) (length values))) (ap (look_of looked) (let z : i ≡ i + 0 = omega arith in z) ∙ each 0 v refl)
@@ -63,7 +63,7 @@ looked_law = record {
 
 -- ---- who sits is idle
 
-idle_mode : (m : Mode) → busy_mode m ≡ 0 → m ≡ Idle
+pub idle_mode : (m : Mode) → busy_mode m ≡ 0 → m ≡ Idle
 idle_mode Idle e = refl
 idle_mode Refused e = absurd (omega arith)
 idle_mode (Reading stamp slot looked log) e = absurd (omega arith)

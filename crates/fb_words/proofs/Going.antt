@@ -1,5 +1,5 @@
 -- Looks, reads and writes one after another, as clauses tell them.
-use Rattle.std.proofs.Common.{◌≡◌, ℕ, ◌+◌, ◌<◌, ◌≤◌, List, [], ◌∷◌, ◌++◌, refl, arith}
+use Rattle.std.proofs.Common.{◌≡◌, ℕ, ◌+◌, ◌<◌, ◌≤◌, [], ◌∷◌, ◌++◌, refl, arith}
 use Rattle.turn_logs.specs.declared.items.Item.{Item}
 use Rattle.fb_words.specs.declared.known.Mode.{Mode}
 use Rattle.fb_words.specs.declared.known.Mode.TheVariants.{Idle, Refused, Reading}

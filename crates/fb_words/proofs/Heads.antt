@@ -7,14 +7,14 @@ use lib.ListN.{get_elem?}
 use Rattle.atomic_table.specs.Table.{Me}
 use Rattle.atomic_table.proofs.Lists.{at_last, at_longer}
 use Rattle.qws_base.specs.declared.journals.JournalEntry.{JournalEntry}
-use Rattle.fb_words.specs.declared.known.Mode.{Mode}
-use Rattle.fb_words.specs.declared.known.Mode.TheVariants.{Idle, Refused, Reading}
+use Rattle.fb_words.specs.declared.known.Mode.TheVariants.{Idle}
 use Rattle.fb_words.specs.declared.known.ServerMode.TheVariants.{Writing}
 use Rattle.fb_words.specs.declared.known.Client.{Client}
 use Rattle.fb_words.specs.declared.known.View.{View}
 use Rattle.turn_logs.specs.Lists.{total}
 use Rattle.fb_words.specs.Views.{is_client, busy, busy_mode, is_closing, alone, only, head_view, the_server, both_views, client_of, without, HasSeen}
 use Rattle.fb_words.specs.Steps.{after_give, with_step, AllSit, SitOnce, AllHere, Knows, arranged}
+use Rattle.fb_words.proofs.Found.{idle_mode}
 use Rattle.fb_words.proofs.Places.{at_end}
 use Rattle.turn_logs.proofs.Totals.{total_snoc, total_one, total_two, total_map, from_map}
 use Rattle.fb_words.proofs.Spreads.{is_itself}
@@ -33,11 +33,6 @@ seen_of seen ps c has here = let there = client_of_here c ps here in
     subst (λ n. (n < 16) × (get_or seen n 0 ≡ (client_of c ps).seen)) there.1 (has.each there.0.0 (client_of c ps) there.0.1)
 
 -- one who sits is in no turn
-idle_mode : (m : Mode) → busy_mode m ≡ 0 → m ≡ Idle
-idle_mode Idle e = refl
-idle_mode Refused e = absurd (omega arith)
-idle_mode (Reading stamp slot looked log) e = absurd (omega arith)
-
 pub idle_there : (c : ℕ) (ps : List Client) → total busy ps ≡ 0 → 1 ≤ total (is_client c) ps → (client_of c ps).mode ≡ Idle
 idle_there c ps idle here = let there = client_of_here c ps here in let one = total_one busy ps there.0.0 (client_of c ps) there.0.1 in idle_mode (client_of c ps).mode (omega arith)
 

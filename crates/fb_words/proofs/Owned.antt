@@ -17,6 +17,7 @@ use Rattle.fb_words.specs.Clips.{IsLookedRow, look_of, looks_of, with_first, rec
 use Rattle.fb_words.specs.Rights.{IsSavedOver, Owns}
 use Rattle.fb_words.specs.Steps.{or_first, looked_mode, after_look}
 use Rattle.turn_logs.proofs.Options.{none_some, same_some}
+use Rattle.fb_words.proofs.Found.{looks_together}
 use Rattle.fb_words.proofs.Rows.{look_true, spelt_from, spelt_row, kept_is}
 use Rattle.fb_words.proofs.Looking.{stamp_stays, earlier}
 use Rattle.fb_words.proofs.Keeping.{seen_judged, looks_keep}
@@ -44,13 +45,6 @@ slot_stays (Reading stamp (Some t) looked log) i n s e = e
 
 -- ---- a row is spelled where its words were looked at
 
-looks_from : (looked : List Looked) (i : ℕ) (vs : List ℕ) → ((j v : ℕ) → get_elem? vs j ≡ some v → look_of looked (i + j) ≡ Some v) → looks_of looked i (length vs) ≡ Some vs
-looks_from looked i [] at = refl
-looks_from looked i (u ∷ vs) at =
-    let first : look_of looked i ≡ Some u = ap (look_of looked) (let z : i ≡ i + 0 = omega arith in z) ∙ at 0 u refl in
-    let rest = looks_from looked (i + 1) vs (λ j v e. ap (look_of looked) (let z : i + 1 + j ≡ i + suc j = omega arith in z) ∙ at (suc j) v e) in
-    ap (λ o. with_first o (looks_of looked (i + 1) (length vs))) first ∙ ap (with_first (Some u)) rest
-
 pub spelled_is : (number : ℕ) (looked : List Looked) (clip : KeptClip) → IsLookedRow number looked clip → spelled number clip.slot looked ≡ Some clip
 spelled_is number looked clip sp = let s = clip.slot in
     let clip_with : Option ℕ → Option ℕ → Option ℕ → Option KeptClip = λ r g n. clip_of s r g (rects_of looked s n) in
@@ -59,7 +53,7 @@ spelled_is number looked clip sp = let s = clip.slot in
     ∙ ap (λ r. clip_with r (look_of looked (row_word s + 2)) (look_of looked (row_word s + 3))) sp.revision
     ∙ ap (λ g. clip_with (Some clip.revision) g (look_of looked (row_word s + 3))) sp.origin
     ∙ ap (λ n. clip_with (Some clip.revision) (Some clip.origin) n) sp.count
-    ∙ ap (λ l. clip_of s (Some clip.revision) (Some clip.origin) l) (looks_from looked (row_word s + 4) clip.rects sp.rects)
+    ∙ ap (λ l. clip_of s (Some clip.revision) (Some clip.origin) l) (looks_together looked (row_word s + 4) clip.rects sp.rects)
 
 spelt_more : (number : ℕ) (looked : List Looked) (l : Looked) (clip : KeptClip) → IsLookedRow number looked clip → IsLookedRow number (looked ++ l ∷ []) clip
 spelt_more number looked l clip sp = record {

@@ -1,5 +1,5 @@
 -- The words of a table are read as that table.
-use Rattle.std.proofs.Common.{⊎_elim, ◌≡◌, ℕ, zero, suc, ◌+◌, ◌-◌, ◌*◌, ◌/◌, ◌%◌, ◌^◌, ◌<◌, ◌≤◌, ◌==◌, nat_lt, true, false, if◌then◌else◌, List, map, length, get_or, inl, inr, refl, sym, ap, ◌∙◌, subst, arith}
+use Rattle.std.proofs.Common.{◌≡◌, ℕ, zero, suc, ◌+◌, ◌-◌, ◌*◌, ◌/◌, ◌%◌, ◌^◌, ◌<◌, ◌≤◌, ◌==◌, nat_lt, true, false, if◌then◌else◌, List, map, length, get_or, inl, inr, refl, sym, ap, ◌∙◌, subst, arith}
 use Rattle.std.specs.Prelude.{slice_index}
 use Rattle.std.specs.List.{range_with_len}
 use Rattle.std.proofs.lemmas.Bool.{lt-ltb}
@@ -10,8 +10,8 @@ use Rattle.std.proofs.lemmas.List.{get_or-map}
 use Rattle.std.proofs.lemmas.List.Elements.{All-get_or}
 use Rattle.std.proofs.lemmas.List.FromFn.{get_or-map-range_with_len, fill_by_all}
 use Rattle.qws_base.specs.declared.points.Rect.{Rect}
-use Rattle.qws_base.specs.Shown.{IsShape}
 use Rattle.qws_base.specs.declared.windows.Cursor.{Cursor}
+use Rattle.qws_base.proofs.CauseLemmas.{few_sides}
 use Rattle.region_table.specs.Numbers.{row_word, cell_word}
 use Rattle.region_table.specs.Packing.{IsPackable, packed, unpacked}
 use Rattle.region_table.specs.Tables.{no_row, row_of, owner_from, origin_from, place_word, shape_word, head_word_of, row_word_of, IsCursor, IsSpellableRow, IsSpellable, row_from, cells_from, cursor_from, rows_from, table_from}
@@ -28,7 +28,7 @@ unfolding rows_from
 row_of_from words slot low = get_or-map-range_with_len (row_from words) 0 33 slot slot no_row low (omega arith)
 
 -- the k-th word of a row
-row_said : (words : ℕ → ℕ) (table : Table) (slot k : ℕ) → Spell words table → slot < 33 → k < 4 + length (row_of table slot).rects → k < 260 → words (row_word slot + k) ≡ row_word_of (row_of table slot) k
+pub row_said : (words : ℕ → ℕ) (table : Table) (slot k : ℕ) → Spell words table → slot < 33 → k < 4 + length (row_of table slot).rects → k < 260 → words (row_word slot + k) ≡ row_word_of (row_of table slot) k
 row_said words table slot k spell low few within =
     let index : ℕ = 2052 + 260 * slot + k in
     let at : (index - 2052) / 260 ≡ slot = omega arith in
@@ -95,12 +95,6 @@ head_said words table index spell low high =
     let early : nat_lt index 2052 ≡ true = grind (arith, nat_tests) in
     spell.said index (inl (low, high)) (inl (omega arith))
     ∙ ap (λ b. if b then head_word_of table index else row_word_of (row_of table ((index - 2052) / 260)) ((index - 2052) % 260)) early
-
-few_sides : (cursor : Cursor) → IsShape cursor → (cursor.w ≤ 32) × (cursor.h ≤ 32)
-few_sides cursor ok = ⊎_elim
-    (λ (some : (1 ≤ cursor.w) × (cursor.w ≤ 32) × (1 ≤ cursor.h) × (cursor.h ≤ 32)). (some.1, some.3))
-    (λ (none : (cursor.w ≡ 0) × (cursor.h ≡ 0)). (omega (arith, none.0), omega (arith, none.1)))
-    ok.sides
 
 pos_left : (w h k : ℕ) → k < w * h → 0 < w
 pos_left zero h k below = absurd (omega arith)

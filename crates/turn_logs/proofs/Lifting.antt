@@ -1,5 +1,5 @@
 -- Cell by cell, a cursor is lifted off the framebuffer and put down there.
-use Rattle.std.proofs.Common.{◌≡◌, ◌≢◌, ℕ, zero, suc, ◌+◌, ◌*◌, ◌/◌, ◌%◌, ◌<◌, ◌≤◌, eq-eqb, ne_eqb, if◌then◌else◌, Bool, true, false, ◌&&◌, List, [], ◌∷◌, ◌++◌, append-nil, ⊎_elim, sym, refl, ap, ◌∙◌, subst, arith, Option, Some, None, pos, ◌+ℤ◌, ◌-ℤ◌, nat_abs, int_le, int_lt}
+use Rattle.std.proofs.Common.{◌≡◌, ◌≢◌, ℕ, zero, suc, ◌+◌, ◌*◌, ◌/◌, ◌%◌, ◌<◌, ◌≤◌, eq-eqb, ne_eqb, if◌then◌else◌, Bool, true, false, ◌&&◌, List, [], ◌∷◌, ◌++◌, append-nil, sym, refl, ap, ◌∙◌, subst, arith, Option, Some, None, pos, ◌+ℤ◌, ◌-ℤ◌, nat_abs, int_le, int_lt}
 use Rattle.std.specs.List.{flat_map, range_with_len}
 use Rattle.std.specs.Option.{option_map}
 use Rattle.std.proofs.Math.Nat.{div-lt_iff_lt-mul, mod-lt}
@@ -14,6 +14,8 @@ use Rattle.qws_base.specs.Shown.{IsShape, cell_at}
 use Rattle.qws_base.specs.declared.colours.Depth.{Depth}
 use Rattle.qws_base.specs.declared.points.Point.{Point}
 use Rattle.qws_base.specs.declared.windows.Cursor.{Cursor}
+use Rattle.qws_base.proofs.CauseLemmas.{few_sides}
+use Rattle.qws_base.proofs.Integers.{some_width}
 use Rattle.region_table.specs.Numbers.{pixel_word, saved_word}
 use Rattle.turn_logs.specs.declared.items.Item.{Item}
 use Rattle.turn_logs.specs.declared.items.Item.TheVariants.{Pick, Put}
@@ -83,16 +85,6 @@ lies_there x y w h a b shown value is in_w in_h =
     ∙ ap (λ c. let s : Option ShownCell = Some record { column = c; row = nat_abs (pos (y + b) -ℤ pos y); value = value (c, nat_abs (pos (y + b) -ℤ pos y)) } in s) (offset_is x a)
     ∙ ap (λ r. let s : Option ShownCell = Some record { column = a; row = r; value = value (a, r) } in s) (offset_is y b)
 
-few_sides : (cursor : Cursor) → IsShape cursor → (cursor.w ≤ 32) × (cursor.h ≤ 32)
-few_sides cursor ok = ⊎_elim
-    (λ (some : (1 ≤ cursor.w) × (cursor.w ≤ 32) × (1 ≤ cursor.h) × (cursor.h ≤ 32)). (some.1, some.3))
-    (λ (none : (cursor.w ≡ 0) × (cursor.h ≡ 0)). (omega (arith, none.0), omega (arith, none.1)))
-    ok.sides
-
-pos_left : (w h k : ℕ) → k < w * h → 0 < w
-pos_left zero h k below = absurd (omega arith)
-pos_left (suc w) h k below = omega arith
-
 spanned : (n at : ℕ) → at < n → spans (pos 0) n (pos at) ≡ true
 spanned n at below = grind (arith, ints)
 
@@ -112,7 +104,7 @@ module _ (size : Sides) (cursor : Cursor) (shape : IsShape cursor) where
   -- the pixel under the cell that lies on it
   under_is : (p : ℕ) (cell : ShownCell) → p < pixel_count size → LiesOn p cell → pixel_under size cursor cell.column cell.row ≡ Some p
   under_is p cell within is =
-      let some : 0 < size.w = pos_left size.w size.h p within in
+      let some : 0 < size.w = some_width size.w size.h p within in
       let x : p % size.w < size.w = mod-lt p some in
       let y : p / size.w < size.h = (div-lt_iff_lt-mul some).1 (omega arith) in
       ap (λ c. Rattle.qws_base.specs.Points.pixel_at size record { x = pos c; y = pos (cursor.y + cell.row) }) (sym is.column_at)
@@ -182,7 +174,7 @@ module _ (size : Sides) (cursor : Cursor) (shape : IsShape cursor) (g : ℕ → 
     few_rows : cursor.h ≤ 32
 
   nth_in : (k : ℕ) → k < cursor.w * cursor.h → Nth k
-  nth_in k lt = let some : 0 < cursor.w = pos_left cursor.w cursor.h k lt in let few = few_sides cursor shape in
+  nth_in k lt = let some : 0 < cursor.w = some_width cursor.w cursor.h k lt in let few = few_sides cursor shape in
       record { column_in = mod-lt k some; row_in = (div-lt_iff_lt-mul some).1 (omega arith); few_columns = few.0; few_rows = few.1 }
 
   -- the place of a shown cell among all

@@ -30,7 +30,7 @@ use Rattle.region_table.specs.Layouts.{row_holds, layout_of_table}
 use Rattle.region_table.specs.declared.tables.Row.{Row}
 use Rattle.region_table.specs.declared.tables.Table.{Table}
 use Rattle.region_table.proofs.Packs.{unpacked_packed, origin_read}
-use Rattle.region_table.proofs.Reading.{cursor_read, spelling_law}
+use Rattle.region_table.proofs.Reading.{row_said as said_in_row, cursor_read, spelling_law}
 use Rattle.region_table.proofs.Telling.{published_apart}
 use Rattle.region_table.proofs.Openings.{opening_words, opening_spellable}
 use Rattle.turn_logs.proofs.FirstTable.{at_opening}
@@ -45,17 +45,7 @@ use Rattle.turn_logs.proofs.Standing.{refused_carried, still_carried, gone_carri
 module _ (words : ℕ → ℕ) (table : Table) (spell : Spell words table) where
   -- the k-th word of a row
   row_said : (slot k : ℕ) → slot < 33 → k < 4 + length (row_of table slot).rects → k < 260 → words (row_word slot + k) ≡ row_word_of (row_of table slot) k
-  row_said slot k low few within =
-      let index : ℕ = 2052 + 260 * slot + k in
-      let at : (index - 2052) / 260 ≡ slot = omega arith in
-      let rest : (index - 2052) % 260 ≡ k = omega arith in
-      let P : ℕ → ℕ → Type 0 = λ s j. j < 4 + length (row_of table s).rects in
-      let said : P ((index - 2052) / 260) ((index - 2052) % 260) = subst (λ s. P s ((index - 2052) % 260)) (sym at) (subst (P slot) (sym rest) few) in
-      let past : nat_lt index 2052 ≡ false = grind (arith, nat_tests) in
-      spell.said index (inr (omega arith, omega arith)) (inr said)
-      ∙ ap (λ b. if b then head_word_of table index else row_word_of (row_of table ((index - 2052) / 260)) ((index - 2052) % 260)) past
-      ∙ ap (λ s. row_word_of (row_of table s) ((index - 2052) % 260)) at
-      ∙ ap (row_word_of (row_of table slot)) rest
+  row_said slot k low few within = said_in_row words table slot k spell low few within
 
   -- a word of the stamp or the cursor
   head_said : (index : ℕ) → 1 ≤ index → index ≤ 1027 → words index ≡ head_word_of table index

@@ -1,5 +1,5 @@
 -- The law of a session: the law of carrying, turn by turn.
-use Rattle.std.proofs.Common.{◌≡◌, ℕ, ◌+◌, Bool, true, false, ◌==◌, if◌then◌else◌, List, [], ◌∷◌, ◌++◌, map, Option, Some, None, refl, sym, ap, ◌∙◌, subst}
+use Rattle.std.proofs.Common.{◌≡◌, ℕ, ◌+◌, Bool, true, false, if◌then◌else◌, List, [], ◌∷◌, ◌++◌, map, Option, Some, None, refl, sym, ap, ◌∙◌, subst}
 use Rattle.std.specs.Prelude.{is_none, slice_index}
 use Rattle.qws_base.specs.Points.{pixel_count}
 use Rattle.qws_base.specs.Inks.{ink_after}
@@ -28,26 +28,14 @@ use Rattle.region_table.proofs.SameScenes.{step_same, scene_same, reply_same}
 use Rattle.region_table.proofs.Telling.{published_law}
 use Rattle.turn_logs.specs.declared.items.Item.{Item}
 use Rattle.turn_logs.specs.declared.items.Item.TheVariants.{Pick, Put}
-use Rattle.turn_logs.specs.Lines.{item_word, on, written, Shows}
+use Rattle.turn_logs.specs.Lines.{on, written, Shows}
 use Rattle.turn_logs.specs.Carries.{TrueIn, words_after, StandFor, IsBare, CarriesPaintUnder, RepliesUnder, scene_of_step}
 use Rattle.turn_logs.specs.Sessions.{Served, Drawn, entry_of, logs_of, table_after, stamp_after, IsServed, IsAt, SessionLaw, PictureLaw}
 use Rattle.turn_logs.proofs.Law.{step_law, paint_law}
+use Rattle.turn_logs.proofs.Joining.{on-append, written-append}
 use Rattle.turn_logs.proofs.Standing.{bare_after, opening_stands, picture_shown}
 
 -- ---- two logs, one after the other
-
-on_append : (x : ℕ) (l m : List Item) → on x (l ++ m) ≡ on x l ++ on x m
-on_append x [] m = refl
-on_append x (i ∷ l) m = go (item_word i == x) (on_append x l m)
-  where
-    go : (b : Bool) → on x (l ++ m) ≡ on x l ++ on x m → (if b then i ∷ on x (l ++ m) else on x (l ++ m)) ≡ (if b then i ∷ on x l else on x l) ++ on x m
-    go true e = ap (λ t. i ∷ t) e
-    go false e = e
-
-written_append : (v : ℕ) (l m : List Item) → written v (l ++ m) ≡ written (written v l) m
-written_append v [] m = refl
-written_append v (Pick w u ∷ l) m = written_append v l m
-written_append v (Put w u ∷ l) m = written_append u l m
 
 shows_split : (v : ℕ) (l m : List Item) → Shows v (l ++ m) → Shows v l × Shows (written v l) m
 shows_split v [] m s = (tt, s)
@@ -56,13 +44,13 @@ shows_split v (Put w u ∷ l) m s = shows_split u l m s
 
 -- the first log is true, and so is the second in the words after the first
 true_first : (words : ℕ → ℕ) (l m : List Item) → TrueIn words (l ++ m) → TrueIn words l
-true_first words l m is_true = λ x. (shows_split (words x) (on x l) (on x m) (subst (Shows (words x)) (on_append x l m) (is_true x))).0
+true_first words l m is_true = λ x. (shows_split (words x) (on x l) (on x m) (subst (Shows (words x)) (on-append x l m) (is_true x))).0
 
 true_second : (words : ℕ → ℕ) (l m : List Item) → TrueIn words (l ++ m) → TrueIn (words_after words l) m
-true_second words l m is_true = λ x. (shows_split (words x) (on x l) (on x m) (subst (Shows (words x)) (on_append x l m) (is_true x))).1
+true_second words l m is_true = λ x. (shows_split (words x) (on x l) (on x m) (subst (Shows (words x)) (on-append x l m) (is_true x))).1
 
 after_both : (words : ℕ → ℕ) (l m : List Item) (x : ℕ) → words_after (words_after words l) m x ≡ words_after words (l ++ m) x
-after_both words l m x = sym (ap (written (words x)) (on_append x l m) ∙ written_append (words x) (on x l) (on x m))
+after_both words l m x = sym (ap (written (words x)) (on-append x l m) ∙ written-append (words x) (on x l) (on x m))
 
 stand_same : (setting : Setting) (cursor : Cursor) (f g : ℕ → ℕ) (scene : List ℕ) → ((x : ℕ) → f x ≡ g x) → StandFor setting cursor f scene → StandFor setting cursor g scene
 stand_same setting cursor f g scene same stands = λ p within. let at = stands p within in record { scene = sym (same _) ∙ at.scene; shown = sym (same _) ∙ at.shown }
