@@ -30,7 +30,7 @@ use Rattle.fb_words.proofs.Rows.{spelt_row, spelt_from, look_true}
 use Rattle.turn_logs.proofs.Options.{none_some, same_some}
 use Rattle.fb_words.proofs.Keeping.{row_kept, kept_law}
 use Rattle.fb_words.proofs.Owned.{spelled_is}
-use Rattle.clip_refetch.specs.Clips.{ClipView, clip_seen, AreFetched, IsKept, IsKnown, IsPublishedIn, OwnsPixels, IsFresh, FreshLaw}
+use Rattle.clip_refetch.specs.Clips.{ClipView, clip_seen, AreFetched, IsStored, IsKnown, IsPublishedIn, OwnsPixels, IsFresh, FreshLaw}
 
 -- ---- the row that words spell
 
@@ -134,7 +134,7 @@ gone_kept first past p q s w a found another =
     only_stored q s (no q.number number) ∙ ap (λ (x : Client). stored x.clips s) a.rest ∙ sym (only_stored p s (λ e. no p.number refl (a.stays (row_word s) (p.number + 1) e)))
 
 pub known_stays : (p q : Client) (clip : ClipView) → kept q clip.slot ≡ kept p clip.slot → IsKnown p clip → IsKnown q clip
-known_stays p q clip same known = ⊎_elim (λ (zero_is : clip.revision ≡ 0). inl zero_is) (λ (k : IsKept p clip). inr (record { row = k.row; is_kept = same ∙ k.is_kept; same = k.same })) known
+known_stays p q clip same known = ⊎_elim (λ (zero_is : clip.revision ≡ 0). inl zero_is) (λ (k : IsStored p clip). inr (record { row = k.row; is_kept = same ∙ k.is_kept; same = k.same })) known
 
 pub outside_row : (s slot : ℕ) → s ≢ slot → AreOutsideRow s (row_word slot) (row_word slot + 260)
 outside_row s slot ne = ⊎_elim (λ (low : s < slot). inr (omega arith)) (λ (high : slot ≤ s). inl (let z : slot < s = grind arith in omega arith)) (Rattle.std.proofs.lemmas.Bool.cases_lt s slot)
@@ -175,13 +175,13 @@ fresh_law q clip stamp stamped k current =
 
 pub current_fresh : (p q : Client) (clip : ClipView) (stamp n word : ℕ) → word ≡ row_word clip.slot + 1 → n ≡ clip.revision → 1 ≤ n → IsKnown p clip → stamp_in q.mode ≡ Some stamp → look_of (looked_in q.mode) word ≡ Some n
     → ((s : ℕ) (k : KeptClip) → slot_in q.mode ≡ Some s → kept p s ≡ Some k → look_of (looked_in q.mode) (row_word s + 1) ≡ Some k.revision → kept q s ≡ Some k)
-    → ((s : ℕ) → (slot_in q.mode ≡ Some s → ⊥) → kept q s ≡ kept p s) → IsFresh q clip × IsKept q clip
+    → ((s : ℕ) → (slot_in q.mode ≡ Some s → ⊥) → kept q s ≡ kept p s) → IsFresh q clip × IsStored q clip
 current_fresh p q clip stamp n word at same from_one known stamped found current away = ⊎_elim
     (λ (new : clip.revision ≡ 0). absurd (omega arith))
-    (λ (k : IsKept p clip).
+    (λ (k : IsStored p clip).
     let row : KeptClip = k.row in
     let now : look_of (looked_in q.mode) (row_word clip.slot + 1) ≡ Some clip.revision = ap (look_of (looked_in q.mode)) (sym at) ∙ found ∙ ap (λ x. Some x) same in
     let here : look_of (looked_in q.mode) (row_word clip.slot + 1) ≡ Some row.revision = now ∙ ap (λ (x : ClipView). Some x.revision) k.same in
-    let is : IsKept q clip = record { row = row; is_kept = still_kept q clip.slot row (kept p clip.slot) k.is_kept (λ inside. current clip.slot row inside k.is_kept here) (away clip.slot); same = k.same } in
+    let is : IsStored q clip = record { row = row; is_kept = still_kept q clip.slot row (kept p clip.slot) k.is_kept (λ inside. current clip.slot row inside k.is_kept here) (away clip.slot); same = k.same } in
     (fresh_law q clip stamp stamped is now, is))
     known

@@ -38,14 +38,14 @@ abbrev pub clip_seen : KeptClip → ClipView
 clip_seen row = record { slot = row.slot; revision = row.revision; origin = origin_from row.origin; rects = map unpacked row.rects }
 
 -- the clip is what the client keeps for its slot
-pub record IsKept (p : Client) (clip : ClipView) : Type 0 where
+pub record IsStored (p : Client) (clip : ClipView) : Type 0 where
   pub row : KeptClip
   pub is_kept : kept p clip.slot ≡ Some row
   pub same : clip ≡ clip_seen row
 
 -- it has revision 0, or is what the client keeps for its slot
 abbrev pub IsKnown : Client → ClipView → Type 0
-IsKnown p clip = (clip.revision ≡ 0) ⊎ IsKept p clip
+IsKnown p clip = (clip.revision ≡ 0) ⊎ IsStored p clip
 
 -- In the table, the clip is the row of its slot, which the client owns. Its rectangles are at most 256, lie on the screen and don't
 -- overlap, and the slot's pixels are those that one of them has.
@@ -69,12 +69,12 @@ OwnsPixels p clip = (k : ℕ) → k < pixel_count p.setting.size → any_holds c
 pub record IsFresh (p : Client) (clip : ClipView) : Type 0 where
   pub revision : look_of (looked_in p.mode) (row_word clip.slot + 1) ≡ Some clip.revision
   pub published : IsPublished p clip
-  pub kept_then : slot_in p.mode ≡ Some clip.slot → IsKept p clip
+  pub kept_then : slot_in p.mode ≡ Some clip.slot → IsStored p clip
   pub owns : slot_in p.mode ≡ Some clip.slot → OwnsPixels p clip
 
 -- a clip that is kept, and whose revision the turn has looked at, is the published row
 abbrev pub FreshLaw : Type 0
-FreshLaw = (q : Client) (clip : ClipView) (stamp : ℕ) → stamp_in q.mode ≡ Some stamp → IsKept q clip → look_of (looked_in q.mode) (row_word clip.slot + 1) ≡ Some clip.revision → IsFresh q clip
+FreshLaw = (q : Client) (clip : ClipView) (stamp : ℕ) → stamp_in q.mode ≡ Some stamp → IsStored q clip → look_of (looked_in q.mode) (row_word clip.slot + 1) ≡ Some clip.revision → IsFresh q clip
 
 -- the rectangles are those of so many looked words, one after another
 pub record AreFetched (looked : List Looked) (first count : ℕ) (rects : List Rect) : Type 0 where
@@ -99,7 +99,7 @@ pub record IsGone (p q : Client) (clip : ClipView) (owner_word : ℕ) : Type 0 w
 -- the owner word is the client's. Gone: it differs, and the owner word isn't the client's.
 abbrev pub Refreshes : Client → Client → ClipView → ClipView → Look → Type 0
 Refreshes p q clip clip' Current =
-    (q ≡ after_look p (row_word clip.slot + 1) clip.revision) × (clip' ≡ clip) × IsFresh q clip' × IsKept q clip'
+    (q ≡ after_look p (row_word clip.slot + 1) clip.revision) × (clip' ≡ clip) × IsFresh q clip' × IsStored q clip'
 Refreshes p q clip clip' (Fetched was now) =
     (was ≡ clip.revision) × (now ≡ clip'.revision) × (now ≡ was → ⊥) × (look_of (looked_in q.mode) (row_word clip.slot) ≡ Some (p.number + 1)) × IsFresh q clip'
 Refreshes p q clip clip' (Gone owner_word) = IsGone p q clip owner_word × (clip' ≡ clip) × IsKnown q clip'

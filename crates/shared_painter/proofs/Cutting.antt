@@ -77,6 +77,58 @@ first_fits low high start n lt first last zero end = omega (arith, ints)
 pub many_fit : (low high start : ℤ) (n : ℕ) → low <ℤ high → start ≤ℤ low → high ≤ℤ (start +ℤ pos n) → pos 0 ≤ℤ start → (start +ℤ pos n) ≤ℤ pos 640 → (FitsSigned w64 (high -ℤ low)) × (pos 0 ≤ℤ (high -ℤ low)) × (nat_abs (high -ℤ low) < 2 ^ 32)
 many_fit low high start n lt first last zero end = (omega (arith, ints), omega (arith, ints), omega (arith, ints))
 
+-- a number as the code has it in 64 bits
+abbrev pub in_64 : ℤ → ℤ
+in_64 z = to_z w64 (of_z w64 z)
+
+-- the later start and the sooner end, as the code computes them from widened numbers
+pub record Numbers (start from : ℤ) (len count : ℕ) (low high : ℤ) : Type 0 where
+  pub low_same : in_64 low ≡ low
+  pub high_same : in_64 high ≡ high
+  pub first : start ≤ℤ low
+  pub last : high ≤ℤ (start +ℤ pos len)
+  pub is_low : low ≡ later start from
+  pub is_high : high ≡ sooner (start +ℤ pos len) (from +ℤ pos count)
+
+pub numbers : (start origin reach : ℤ) (len count : ℕ) (o r s t l m low high : ℤ) → FitsSigned w32 origin → FitsSigned w32 reach → FitsSigned w32 start → len < 2 ^ 32 → count < 2 ^ 32
+    → o ≡ to_z w32 (of_z w32 origin) → r ≡ to_z w32 (of_z w32 reach) → s ≡ to_z w32 (of_z w32 start) → t ≡ to_z w32 (of_z w32 start) → l ≡ pos len → m ≡ pos count → FitsSigned w64 low → FitsSigned w64 high
+    → low ≡ later (in_64 s) (in_64 (in_64 o +ℤ in_64 r)) → in_64 s ≤ℤ low → high ≡ sooner (in_64 (in_64 t +ℤ in_64 l)) (in_64 (in_64 (in_64 o +ℤ in_64 r) +ℤ in_64 m)) → high ≤ℤ in_64 (in_64 t +ℤ in_64 l)
+    → Numbers start (origin +ℤ reach) len count low high
+numbers start origin reach len count o r s t l m low high fo fr fs few_l few_m is_o is_r is_s is_t is_l is_m fits_low fits_high low_is from_low high_is to_high =
+    let from : in_64 (in_64 o +ℤ in_64 r) ≡ origin +ℤ reach = sum_is _ _ origin reach fo fr (wide_is o origin fo is_o) (wide_is r reach fr is_r) in
+    let begin : in_64 s ≡ start = wide_is s start fs is_s in
+    let end : in_64 (in_64 t +ℤ in_64 l) ≡ start +ℤ pos len = end_is _ _ start len fs few_l (wide_is t start fs is_t) (count_is l len few_l is_l) in
+    let past = past_is _ _ origin reach count fo fr few_m from (count_is m count few_m is_m) in
+    record {
+      low_same = to_z-of_z w64 low fits_low;
+      high_same = to_z-of_z w64 high fits_high;
+      first = subst (λ z. z ≤ℤ low) begin from_low;
+      last = subst (λ z. high ≤ℤ z) end to_high;
+      is_low = low_is ∙ later_same _ _ start (origin +ℤ reach) begin from;
+      is_high = high_is ∙ sooner_same _ _ (start +ℤ pos len) ((origin +ℤ reach) +ℤ pos count) end past;
+    }
+
+-- where the start is before the end, both and their distance fit
+pub record Reached (low high : ℤ) : Type 0 where
+  pub before : low <ℤ high
+  pub low_fits : FitsSigned w32 low
+  pub length_fits : FitsSigned w64 (high -ℤ low)
+  pub length_is : in_64 (in_64 high -ℤ in_64 low) ≡ high -ℤ low
+  pub from_zero : pos 0 ≤ℤ (high -ℤ low)
+  pub few : nat_abs (high -ℤ low) < 2 ^ 32
+
+pub reached : (start from : ℤ) (len count : ℕ) (low high : ℤ) → Numbers start from len count low high → int_lt (in_64 low) (in_64 high) ≡ true → pos 0 ≤ℤ start → (start +ℤ pos len) ≤ℤ pos 640 → Reached low high
+reached start from len count low high n told zero end =
+    let lt : low <ℤ high = lt_told low high (sym (ap (λ x. int_lt x (in_64 high)) n.low_same ∙ ap (int_lt low) n.high_same) ∙ told) in
+    let many = many_fit low high start len lt n.first n.last zero end in record {
+      before = lt;
+      low_fits = first_fits low high start len lt n.first n.last zero end;
+      length_fits = many.0;
+      length_is = ap (λ x. in_64 (x -ℤ in_64 low)) n.high_same ∙ ap (λ x. in_64 (high -ℤ x)) n.low_same ∙ to_z-of_z w64 (high -ℤ low) many.0;
+      from_zero = many.1;
+      few = many.2;
+    }
+
 -- ---- what a cut has
 
 -- the later one is neither before the one nor before the other, and it is one of them; so is the sooner one

@@ -30,7 +30,7 @@ use Rattle.fb_words.specs.Steps.{looked_mode, after_look, after_leave, paint_cal
 use Rattle.fb_words.specs.Views.{PassView, ScreenView}
 use Rattle.fb_words.proofs.Rows.{look_true}
 use Rattle.display_lock.specs.Turns.{let_in}
-use Rattle.clip_refetch.specs.Clips.{ClipView, IsKept, IsKnown, IsFresh, IsGone, OwnsPixels, FreshLaw, LooksAtRow}
+use Rattle.clip_refetch.specs.Clips.{ClipView, IsStored, IsKnown, IsFresh, IsGone, OwnsPixels, FreshLaw, LooksAtRow}
 use Rattle.shared_painter.specs.declared.painters.Done.{Done}
 use Rattle.shared_painter.specs.declared.painters.Painted.{Painted as PaintedAnswer}
 use Rattle.shared_painter.specs.Answers.{entry_of, Closes, LooksAtRevision, PaintsInTurn, FindsGone, HasPainted, HasGone, KeepsOthers, IsBack}
@@ -78,16 +78,16 @@ rects_owned p q clip rects looks owns are k d low x within has =
 
 -- ---- a painted clip
 
-pub still_kept : (p q : Client) (clip : ClipView) → GoesOn 2 1028 p q → IsKept p clip → IsKept q clip
+pub still_kept : (p q : Client) (clip : ClipView) → GoesOn 2 1028 p q → IsStored p clip → IsStored q clip
 still_kept p q clip goes k = record { row = k.row; is_kept = goes.kept_is clip.slot (inl (omega arith)) ∙ k.is_kept; same = k.same }
 
-pub kept_by : (p q : Client) (clip : ClipView) → KeepsClips p q → IsKept p clip → IsKept q clip
+pub kept_by : (p q : Client) (clip : ClipView) → KeepsClips p q → IsStored p clip → IsStored q clip
 kept_by p q clip keeps k = record { row = k.row; is_kept = keeps clip.slot ∙ k.is_kept; same = k.same }
 
-pub still_fresh : FreshLaw → (p q : Client) (clip : ClipView) (stamp : ℕ) → GoesOn 2 1028 p q → IsKept p clip → IsFresh p clip → stamp_in q.mode ≡ Some stamp → IsFresh q clip
+pub still_fresh : FreshLaw → (p q : Client) (clip : ClipView) (stamp : ℕ) → GoesOn 2 1028 p q → IsStored p clip → IsFresh p clip → stamp_in q.mode ≡ Some stamp → IsFresh q clip
 still_fresh law p q clip stamp goes k fresh stamped = law q clip stamp stamped (still_kept p q clip goes k) (goes.stays _ _ fresh.revision)
 
-pub whole_carried : CarriedLaw → FreshLaw → (p q : Client) (clip : ClipView) (sheet : Sheet) (e : BookEntry) (count stamp : ℕ) → log_in p.mode ≡ [] → GoesOn 2 1028 p q → IsKept p clip → IsFresh p clip → stamp_in q.mode ≡ Some stamp
+pub whole_carried : CarriedLaw → FreshLaw → (p q : Client) (clip : ClipView) (sheet : Sheet) (e : BookEntry) (count stamp : ℕ) → log_in p.mode ≡ [] → GoesOn 2 1028 p q → IsStored p clip → IsFresh p clip → stamp_in q.mode ≡ Some stamp
     → PaintsPixels clip.origin sheet (cut_pixels p.setting.size.w clip.origin sheet.reach clip.rects) p q
     → count ≡ length (filter (has_ink p.setting.size.w clip.origin sheet) (cut_pixels p.setting.size.w clip.origin sheet.reach clip.rects))
     → e.slot ≡ clip.slot → e.reply ≡ Painted count → CarriesAtEnd q e sheet
@@ -150,7 +150,7 @@ fetched_anew clip clip' was now a b ne = sym (ap not (ne_eqb clip'.revision clip
 
 -- a client that has painted on a fresh clip
 pub paints_in_turn : CarriedLaw → FreshLaw → (p q r : Client) (clip clip' : ClipView) (sheet : Sheet) (pixels stamp : ℕ) (fetched : Bool) → log_in p.mode ≡ [] → LooksAtRow clip.slot p q → slot_in q.mode ≡ Some clip.slot → clip'.slot ≡ clip.slot
-    → IsFresh q clip' → IsKept q clip' → GoesOn 2 1028 q r → stamp_in r.mode ≡ Some stamp
+    → IsFresh q clip' → IsStored q clip' → GoesOn 2 1028 q r → stamp_in r.mode ≡ Some stamp
     → PaintsPixels clip'.origin sheet (cut_pixels q.setting.size.w clip'.origin sheet.reach clip'.rects) q r
     → pixels ≡ length (filter (has_ink q.setting.size.w clip'.origin sheet) (cut_pixels q.setting.size.w clip'.origin sheet.reach clip'.rects))
     → fetched ≡ not (clip'.revision == clip.revision) → (fetched ≡ false → (clip' ≡ clip) × LooksAtRevision r clip.slot)
@@ -223,7 +223,7 @@ has_gone p0 p1 q0 after clip clip' sheet tag stamp given at begins screen limit 
   owner_word = finds.owner_word;
   gone = (let gone = finds.gone in record { revision = gone.revision; looked = gone.looked; differs = gone.differs; owner = gone.owner; another = λ is. gone.another (is ∙ ap (λ (x : PassView). x.client.number + 1) (sym begins)) });
   empty = finds.empty;
-  known = ⊎_elim (λ (new : clip.revision ≡ 0). inl new) (λ (k : IsKept q0.client clip). inr (kept_by q0.client after.client clip keeps k)) finds.known;
+  known = ⊎_elim (λ (new : clip.revision ≡ 0). inl new) (λ (k : IsStored q0.client clip). inr (kept_by q0.client after.client clip keeps k)) finds.known;
 }
 
 -- ---- what each answer leaves

@@ -11,7 +11,7 @@ use Rattle.fb_words.specs.Clips.{look_of, looked_in, stamp_in, slot_in, log_in, 
 use Rattle.fb_words.specs.Steps.{CarriesAtEnd, paint_call, after_leave}
 use Rattle.fb_words.specs.Views.{PassView, books_in}
 use Rattle.display_lock.specs.Turns.{turned_away}
-use Rattle.clip_refetch.specs.Clips.{ClipView, IsKept, IsKnown, IsFresh, IsGone}
+use Rattle.clip_refetch.specs.Clips.{ClipView, IsStored, IsKnown, IsFresh, IsGone}
 use Rattle.shared_painter.specs.declared.painters.Painted.{Painted as PaintedAnswer}
 use Rattle.shared_painter.specs.declared.painters.Done.{Done}
 use Rattle.shared_painter.specs.declared.painters.PaintStop.{PaintStop}
@@ -43,7 +43,7 @@ pub record PaintsInTurn (p q : Client) (clip clip' : ClipView) (sheet : Sheet) (
   pub turn_slot : slot_in q.mode ≡ Some clip.slot
   pub carries : (e : BookEntry) → e.slot ≡ clip.slot → e.reply ≡ Painted done.pixels → CarriesAtEnd q e sheet
   pub fresh : IsFresh q clip'
-  pub is_kept : IsKept q clip'
+  pub is_kept : IsStored q clip'
   pub slot : clip'.slot ≡ clip.slot
   pub fetched : done.fetched ≡ not (clip'.revision == clip.revision)
   pub looks : done.fetched ≡ false → (clip' ≡ clip) × LooksAtRevision q clip.slot
@@ -70,7 +70,7 @@ pub record HasPainted (before after : PassView) (clip clip' : ClipView) (sheet :
   pub turn : Client
   pub closes : Closes before after turn (entry_of painted.stamp clip tag (Painted painted.pixels)) sheet
   pub fresh : IsFresh turn clip'
-  pub is_kept : IsKept after.client clip'
+  pub is_kept : IsStored after.client clip'
   pub slot : clip'.slot ≡ clip.slot
   pub fetched : painted.fetched ≡ not (clip'.revision == clip.revision)
   pub looks : painted.fetched ≡ false → (clip' ≡ clip) × LooksAtRevision turn clip.slot

@@ -13,7 +13,8 @@ use Rattle.fb_words.specs.declared.known.Client.{Client}
 use Rattle.fb_words.proofs.Going.{none_done, both_done}
 use Rattle.display_lock.specs.Turns.{client_in}
 use Rattle.shared_painter.specs.Painted.{PaintsPixels}
-use Rattle.shared_painter.proofs.Painting.{none_painted, both_painted, rows_of, no_rows, all_rows, row_more, counted_both, more_columns, end_in, rect_place, row_in}
+use Rattle.qws_base.proofs.PixelRows.{rows_of, no_rows, all_rows, row_more, counted_both, more_columns, end_in, row_in}
+use Rattle.shared_painter.proofs.Painting.{none_painted, both_painted, place_on_screen}
 use Rattle.shared_painter.proofs.rows.paint_rect.Goals as goal
 
 pub loop-i-init : goal.loop-i-init
@@ -37,7 +38,7 @@ paint_row-count-requires-clause-at g c =
     let r = c.args.rect in
     let x : to_z w32 (of_z w32 r.x) ≡ r.x = omega (arith, ints) in
     let y : to_z w32 (of_z w32 r.y) ≡ r.y = omega (arith, ints) in
-    let place = rect_place c.args.size r c.loop-i.i c.w-width.result (nat_abs (to_z w32 (of_z w32 r.y))) (nat_abs (to_z w32 (of_z w32 r.x))) c.requires.on_screen c.loop-i-test.true c.w-width.ensures.value (ap nat_abs y) (ap nat_abs x) in
+    let place = place_on_screen c.args.size r c.loop-i.i c.w-width.result (nat_abs (to_z w32 (of_z w32 r.y))) (nat_abs (to_z w32 (of_z w32 r.x))) c.requires.on_screen c.loop-i-test.true c.w-width.ensures.value (ap nat_abs y) (ap nat_abs x) in
     let f : ℕ = (nat_abs (to_z w32 (of_z w32 r.y)) + c.loop-i.i) * c.w-width.result + nat_abs (to_z w32 (of_z w32 r.x)) in
     let size : c.args.size ≡ (client_in c.loop-i.turn).setting.size = c.requires.size ∙ sym (ap (λ (q : Client). q.setting.size) i.goes.rest) in
     let across = place.across in
@@ -60,7 +61,7 @@ paint_row-count-requires-clause-width g c =
     let r = c.args.rect in
     let x : to_z w32 (of_z w32 r.x) ≡ r.x = omega (arith, ints) in
     let y : to_z w32 (of_z w32 r.y) ≡ r.y = omega (arith, ints) in
-    let place = rect_place c.args.size r c.loop-i.i c.w-width.result (nat_abs (to_z w32 (of_z w32 r.y))) (nat_abs (to_z w32 (of_z w32 r.x))) c.requires.on_screen c.loop-i-test.true c.w-width.ensures.value (ap nat_abs y) (ap nat_abs x) in
+    let place = place_on_screen c.args.size r c.loop-i.i c.w-width.result (nat_abs (to_z w32 (of_z w32 r.y))) (nat_abs (to_z w32 (of_z w32 r.x))) c.requires.on_screen c.loop-i-test.true c.w-width.ensures.value (ap nat_abs y) (ap nat_abs x) in
     let f : ℕ = (nat_abs (to_z w32 (of_z w32 r.y)) + c.loop-i.i) * c.w-width.result + nat_abs (to_z w32 (of_z w32 r.x)) in
     let size : c.args.size ≡ (client_in c.loop-i.turn).setting.size = c.requires.size ∙ sym (ap (λ (q : Client). q.setting.size) i.goes.rest) in
     let across = place.across in
@@ -79,7 +80,7 @@ paint_row-count-requires-clause-pixels g c =
     let r = c.args.rect in
     let x : to_z w32 (of_z w32 r.x) ≡ r.x = omega (arith, ints) in
     let y : to_z w32 (of_z w32 r.y) ≡ r.y = omega (arith, ints) in
-    let place = rect_place c.args.size r c.loop-i.i c.w-width.result (nat_abs (to_z w32 (of_z w32 r.y))) (nat_abs (to_z w32 (of_z w32 r.x))) c.requires.on_screen c.loop-i-test.true c.w-width.ensures.value (ap nat_abs y) (ap nat_abs x) in
+    let place = place_on_screen c.args.size r c.loop-i.i c.w-width.result (nat_abs (to_z w32 (of_z w32 r.y))) (nat_abs (to_z w32 (of_z w32 r.x))) c.requires.on_screen c.loop-i-test.true c.w-width.ensures.value (ap nat_abs y) (ap nat_abs x) in
     let f : ℕ = (nat_abs (to_z w32 (of_z w32 r.y)) + c.loop-i.i) * c.w-width.result + nat_abs (to_z w32 (of_z w32 r.x)) in
     let size : c.args.size ≡ (client_in c.loop-i.turn).setting.size = c.requires.size ∙ sym (ap (λ (q : Client). q.setting.size) i.goes.rest) in
     let across = place.across in
@@ -99,7 +100,7 @@ paint_row-count-requires-clause-owns g c = λ k from to.
     let r = c.args.rect in
     let x : to_z w32 (of_z w32 r.x) ≡ r.x = omega (arith, ints) in
     let y : to_z w32 (of_z w32 r.y) ≡ r.y = omega (arith, ints) in
-    let place = rect_place c.args.size r c.loop-i.i c.w-width.result (nat_abs (to_z w32 (of_z w32 r.y))) (nat_abs (to_z w32 (of_z w32 r.x))) c.requires.on_screen c.loop-i-test.true c.w-width.ensures.value (ap nat_abs y) (ap nat_abs x) in
+    let place = place_on_screen c.args.size r c.loop-i.i c.w-width.result (nat_abs (to_z w32 (of_z w32 r.y))) (nat_abs (to_z w32 (of_z w32 r.x))) c.requires.on_screen c.loop-i-test.true c.w-width.ensures.value (ap nat_abs y) (ap nat_abs x) in
     let f : ℕ = (nat_abs (to_z w32 (of_z w32 r.y)) + c.loop-i.i) * c.w-width.result + nat_abs (to_z w32 (of_z w32 r.x)) in
     let size : c.args.size ≡ (client_in c.loop-i.turn).setting.size = c.requires.size ∙ sym (ap (λ (q : Client). q.setting.size) i.goes.rest) in
     let across = place.across in
@@ -118,7 +119,7 @@ loop-i-preserved g c =
     let r = c.args.rect in
     let x : to_z w32 (of_z w32 r.x) ≡ r.x = omega (arith, ints) in
     let y : to_z w32 (of_z w32 r.y) ≡ r.y = omega (arith, ints) in
-    let place = rect_place c.args.size r c.loop-i.i c.w-width.result (nat_abs (to_z w32 (of_z w32 r.y))) (nat_abs (to_z w32 (of_z w32 r.x))) c.requires.on_screen c.loop-i-test.true c.w-width.ensures.value (ap nat_abs y) (ap nat_abs x) in
+    let place = place_on_screen c.args.size r c.loop-i.i c.w-width.result (nat_abs (to_z w32 (of_z w32 r.y))) (nat_abs (to_z w32 (of_z w32 r.x))) c.requires.on_screen c.loop-i-test.true c.w-width.ensures.value (ap nat_abs y) (ap nat_abs x) in
     let f : ℕ = (nat_abs (to_z w32 (of_z w32 r.y)) + c.loop-i.i) * c.w-width.result + nat_abs (to_z w32 (of_z w32 r.x)) in
     let size : c.args.size ≡ (client_in c.loop-i.turn).setting.size = c.requires.size ∙ sym (ap (λ (q : Client). q.setting.size) i.goes.rest) in
     let across = place.across in

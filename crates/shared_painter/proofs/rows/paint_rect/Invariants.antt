@@ -4,7 +4,7 @@ use Rattle.qws_base.specs.Scenes.{has_ink}
 use Rattle.display_lock.specs.Turns.{IsOpen, SameTurn, client_in}
 use Rattle.sw_cursor.specs.Covers.{PaintsOn, IsCover}
 use Rattle.shared_painter.specs.Painted.{PaintsPixels}
-use Rattle.shared_painter.proofs.Painting.{rows_of}
+use Rattle.qws_base.proofs.PixelRows.{rows_of}
 use Rattle.shared_painter.proofs.rows.paint_rect.Given as goal
 
 abbrev pub invariant-loop-i : goal.invariant-loop-i

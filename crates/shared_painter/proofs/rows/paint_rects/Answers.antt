@@ -9,7 +9,8 @@ use Rattle.display_lock.specs.Turns.{client_in}
 use Rattle.qws_base.specs.RectPixels.{rect_pixels}
 use Rattle.shared_painter.specs.Cuts.{cut_rect}
 use Rattle.shared_painter.specs.Painted.{PaintsPixels, cut_pixels}
-use Rattle.shared_painter.proofs.Painting.{both_painted, counted_both, parts_more}
+use Rattle.qws_base.proofs.PixelRows.{counted_both}
+use Rattle.shared_painter.proofs.Painting.{both_painted, parts_more}
 use Rattle.shared_painter.proofs.rows.paint_rects.Goals as goal
 
 pub loop-rect-preserved : goal.loop-rect-preserved

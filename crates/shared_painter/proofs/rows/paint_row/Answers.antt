@@ -11,7 +11,8 @@ use Rattle.fb_words.specs.declared.known.Client.{Client}
 use Rattle.fb_words.proofs.Going.{none_done, both_done}
 use Rattle.display_lock.specs.Turns.{client_in}
 use Rattle.shared_painter.specs.Painted.{PaintsPixels}
-use Rattle.shared_painter.proofs.Painting.{none_painted, one_painted, both_painted, range_more, counted_more, few_more, next_in_row, ink_in_row, row_length}
+use Rattle.qws_base.proofs.PixelRows.{range_more, counted_more, few_more, next_in_row, ink_in_row, row_length}
+use Rattle.shared_painter.proofs.Painting.{none_painted, one_painted, both_painted}
 use Rattle.shared_painter.proofs.rows.paint_row.Goals as goal
 
 pub loop-j-init : goal.loop-j-init
