@@ -103,7 +103,9 @@ impl Core {
         self.backdrop
     }
 
-    /// What a command of a client does to the present state. All memory of the step is taken here.
+    /// What a command of a client does to the present state. Clients are numbered below 16, and no slot's revision stands at its
+    /// last value, 2^64 - 1. All memory of the step is taken here, and want of it is the only error; nothing changes before the
+    /// plan is committed.
     pub fn plan(&self, alloc: Global, client: u32, command: &Command) -> Result<Plan, OutOfMemory>
         requires client { client < 16 }
         requires room { CanRise self.now.state }
