@@ -1,0 +1,5 @@
+pub mod Asked
+pub mod Carried
+pub mod Cursors
+pub mod Redraws
+pub mod Rows

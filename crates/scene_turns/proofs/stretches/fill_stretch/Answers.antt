@@ -1,0 +1,40 @@
+use Rattle.std.proofs.Common.{rules, ◌≡◌, ◌+◌, [], ◌∷◌, false, sym, refl, ap, ◌∙◌, subst, arith}
+use Rattle.fb_words.specs.Views.{HeadView, ScreenView}
+use Rattle.scene_turns.specs.declared.works.Work.TheVariants.{Fill}
+use Rattle.scene_turns.specs.Works.{Works, CanWork}
+use Rattle.scene_turns.proofs.Working.{none_done, both_done, stretch_part, no_stretch, whole_stretch, stretch_more}
+use Rattle.scene_turns.proofs.stretches.fill_stretch.Goals as goal
+
+pub loop-j-init : goal.loop-j-init
+loop-j-init c = let a = c.args.turn.now.head.now.server.log in record {
+  same = search rules;
+  is_open = c.requires.open;
+  head = refl;
+  log = subst (λ l. Works (Fill c.args.colour) l a a) (sym (no_stretch false c.args.first c.args.count)) (none_done (Fill c.args.colour) a);
+  true_log = λ t. t;
+}
+
+pub fill_pixel-requires-clause-can : goal.fill_pixel-requires-clause-can
+fill_pixel-requires-clause-can c =
+    let i = c.loop-j.invariant in
+    let test = c.loop-j-test.true in
+    subst (λ (s : ScreenView). CanWork s.setting (Fill c.args.colour) (c.args.first + c.loop-j.j)) (sym i.same.1) (c.requires.can (c.args.first + c.loop-j.j) (omega arith) (omega arith))
+
+pub loop-j-preserved : goal.loop-j-preserved
+loop-j-preserved c = let i = c.loop-j.invariant in let e = c.fill_pixel.ensures in
+    let a = c.args.turn.now.head.now.server.log in
+    let b = c.loop-j.turn.head.now.server.log in
+    let d = c.fill_pixel.new.turn.head.now.server.log in
+    record {
+      same = search rules;
+      is_open = e.open;
+      head = e.head ∙ ap (λ (h : HeadView). record h { server = record h.server { log = d } }) i.head;
+      log = subst (λ l. Works (Fill c.args.colour) l a d) (sym (stretch_more false c.args.first c.args.count c.loop-j.j (c.args.first + c.loop-j.j) refl))
+          (both_done (Fill c.args.colour) (stretch_part false c.args.first c.args.count c.loop-j.j) ((c.args.first + c.loop-j.j) ∷ []) a b d i.log e.log);
+      true_log = λ t. e.true_log (i.true_log t);
+    }
+
+pub returns-clause-log : goal.returns-clause-log
+returns-clause-log c = let i = c.loop-j.invariant in let end = c.loop-j.auto.j-end in let test = c.loop-j-test.false in
+    subst (λ l. Works (Fill c.args.colour) l c.args.turn.now.head.now.server.log c.loop-j.turn.head.now.server.log)
+    (ap (stretch_part false c.args.first c.args.count) (let z : c.loop-j.j ≡ c.args.count = omega arith in z) ∙ whole_stretch false c.args.first c.args.count) i.log
