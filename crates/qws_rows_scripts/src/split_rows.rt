@@ -1,0 +1,42 @@
+//! Where a script ends.
+use script_store::{cut, split};
+use std::process::Abort;
+use std::test::Fail;
+
+// The first part has that many bytes, and the second has the rest.
+fn splits_at(rt: &impl Abort, bytes: &[u8], len: usize) {
+    let (script, rest) = split(bytes);
+    assert_eq!(rt; script.len(), len);
+    assert_eq!(rt; script.len() + rest.len(), bytes.len());
+    let start = bytes.get(..len).unwrap_or(bytes);
+    assert_eq!(rt; script, start);
+}
+
+#[test]
+fn scripts_end_with_their_first_line_end(rt: HostRuntime) -> Result<(), Fail> {
+    for (bytes, len) in [
+        (b"".as_slice(), 0),
+        (b"end\n", 4),
+        (b"end", 3),
+        (b"screen 2 1 102030\nclients 0\nend\nP6\n", 32),
+        (b"end\nend\n", 4),
+        (b"bend\nends\n end\nend \nEND\n", 24),
+        (b"\nend\n\n", 5),
+        (b"a\r\nend\nP6\nend\n", 7),
+    ] {
+        splits_at(&rt, bytes, len);
+    }
+    Ok(())
+}
+
+#[test]
+fn lines_are_cut_at_their_line_feed(rt: HostRuntime) -> Result<(), Fail> {
+    assert_eq!(rt;
+        cut(b"screen 2 1\nend\n"),
+        Some((b"screen 2 1".as_slice(), b"end\n".as_slice()))
+    );
+    assert_eq!(rt; cut(b"\n\n"), Some((b"".as_slice(), b"\n".as_slice())));
+    assert_eq!(rt; cut(b"end"), None);
+    assert_eq!(rt; cut(b""), None);
+    Ok(())
+}

@@ -1,0 +1,2 @@
+pub mod WideRows
+pub mod GlyphParts

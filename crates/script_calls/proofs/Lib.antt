@@ -1,0 +1,2 @@
+-- The line of a call reads back.
+pub mod Backs

@@ -1,0 +1,11 @@
+pub mod Session
+pub mod Printing
+pub mod Limits
+pub mod Judging
+pub mod Spelling
+pub mod Words
+pub mod Lines
+pub mod Reading
+pub mod Shapes
+pub mod Answers
+pub mod Laws

@@ -1,0 +1,3 @@
+-- Tables of names, and the creates that gave them.
+pub mod Tables
+pub mod Latest

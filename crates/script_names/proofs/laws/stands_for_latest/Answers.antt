@@ -1,0 +1,5 @@
+use Rattle.script_names.proofs.Latest.{stands_for_latest}
+use Rattle.script_names.proofs.laws.stands_for_latest.Goals as goal
+
+pub returns : goal.returns
+returns c = stands_for_latest

@@ -1,0 +1,3 @@
+-- A line more.
+pub mod Folds
+pub mod Behind

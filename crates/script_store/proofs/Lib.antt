@@ -1,0 +1,6 @@
+-- Where bytes are cut, and where the lines of calls begin.
+pub mod Seams
+pub mod Counts
+pub mod Begins
+pub mod Kept
+pub mod Behind

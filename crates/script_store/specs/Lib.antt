@@ -1,0 +1,4 @@
+pub mod Cuts
+pub mod Places
+pub mod Stored
+pub mod Laws
