@@ -1,0 +1,10 @@
+pub mod Named
+pub mod LineOrder
+pub mod Placed
+pub mod Turns
+pub mod Calls
+pub mod Opening
+pub mod Going
+pub mod Finishing
+pub mod Revisions
+pub mod Painted

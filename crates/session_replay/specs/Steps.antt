@@ -1,0 +1,91 @@
+-- What a replay holds behind a history.
+use Rattle.std.specs.Prelude.{ℕ, ◌≡◌, ◌<◌, ◌+◌, ◌^◌, List, [], ◌∷◌, ◌++◌, length, map, slice_index_or, slice_get, Some, All}
+use lib.Chars.{codes}
+use Rattle.std.specs.List.{flat_map}
+use Rattle.qws_base.specs.States.{State}
+use Rattle.qws_base.specs.Scenes.{Setting}
+use Rattle.qws_base.specs.Histories.{Entry, World, calls_of, next_world, world_after}
+use Rattle.qws_base.specs.Histories.Entry.{Step as StepEntry, Paint as PaintEntry}
+use Rattle.window_core.specs.CoreViews.{CoreView, CanRise}
+use Rattle.pixel_model.specs.Drawn.{Drawn}
+use Rattle.session_journal.specs.Texts.{told_call, comments, line_text, reply_words, paint_words}
+use Rattle.session_journal.specs.Grammar.{IsComment}
+use Rattle.session_script.specs.Session.{Session, session_setting, lines_by}
+use Rattle.session_script.specs.Meaning.{learned}
+use Rattle.session_script.specs.declared.lines.LineCall.{LineCall}
+use Rattle.session_script.specs.declared.names.Place.{Place}
+use Rattle.session_replay.specs.declared.answers.Answer.{Answer}
+use Rattle.session_replay.specs.declared.answers.Answer.TheVariants.{Step as StepAnswer, Paint as PaintAnswer}
+use Rattle.session_replay.specs.declared.callers.Caller.{Caller}
+use Rattle.session_replay.specs.declared.replays.Replay.{Replay}
+use Rattle.session_replay.specs.Runs.{places_in, next_entry}
+
+-- the answer that an entry has
+abbrev pub answer_of : Entry → Answer
+answer_of (StepEntry client command reply) = StepAnswer reply
+answer_of (PaintEntry client slot tag sheet reply) = PaintAnswer reply
+
+abbrev pub answer_words : Answer → List ℕ
+answer_words (StepAnswer reply) = reply_words reply
+answer_words (PaintAnswer reply) = paint_words reply
+
+-- the names after an answer
+abbrev pub learned_by_answer : List Place → LineCall → Answer → List Place
+learned_by_answer places call (StepAnswer reply) = learned places call reply
+learned_by_answer places call (PaintAnswer reply) = places
+
+-- a client's names after a history, how many of its calls stand in it, and how many it has in all
+pub record IsCaller (session : Session) (h : List Entry) (client : ℕ) (caller : Caller) : Type 0 where
+  pub client_is : caller.names.client ≡ client
+  pub places : caller.names.places ≡ places_in session h client
+  pub made : caller.made ≡ length (calls_of h client)
+  pub calls : caller.calls ≡ length (lines_by session client)
+
+-- at a client's place stands the client, without names and before its first call
+abbrev pub IsNewCaller : Session → List Caller → ℕ → Type 0
+IsNewCaller session callers client = slice_get callers client ≡ Some (record { names = record { client = client; places = [] }; made = 0; calls = length (lines_by session client) })
+
+-- one for each client
+pub record AreCallers (session : Session) (h : List Entry) (callers : List Caller) : Type 0 where
+  pub many : length callers ≡ session.clients
+  pub each : (client : ℕ) (d : Caller) → client < session.clients → IsCaller session h client (slice_index_or callers client d)
+
+-- core and canvas are the world after a history
+pub record IsWorld (session : Session) (h : List Entry) (core : CoreView) (canvas : Drawn) : Type 0 where
+  pub size : core.size ≡ session.size
+  pub setting : canvas.setting ≡ session_setting session
+  pub state : core.state ≡ (world_after (session_setting session) h).state
+  pub scene : canvas.scene ≡ (world_after (session_setting session) h).scene
+
+-- state and scene are those of the world after an entry
+pub record IsNextWorld (setting : Setting) (world : World) (e : Entry) (state : State) (scene : List ℕ) : Type 0 where
+  pub state_is : state ≡ (next_world setting world e).state
+  pub scene_is : scene ≡ (next_world setting world e).scene
+
+-- a replay behind a history
+pub record IsReplay (session : Session) (h : List Entry) (replay : Replay) : Type 0 where
+  pub world : IsWorld session h replay.core replay.canvas
+  pub callers : AreCallers session h replay.callers.items
+
+-- a client has a call left, and no number is at its end
+pub record IsReady (session : Session) (client : ℕ) (replay : Replay) (caller : Caller) : Type 0 where
+  pub within : client < length replay.callers.items
+  pub sixteen : client < 16
+  pub named : caller.names.client ≡ client
+  pub left : caller.made < length (lines_by session client)
+  pub few : caller.made + 1 < 2 ^ 64
+  pub room : CanRise replay.core.state
+  pub size : replay.canvas.setting.size ≡ replay.core.size
+
+-- the caller of a client
+abbrev pub caller_at : Replay → ℕ → Caller
+caller_at replay client = slice_index_or replay.callers.items client (record { names = record { client = 0; places = [] }; made = 0; calls = 0 })
+
+-- behind whatever history a replay was, it is now behind the client's next entry too, and the answer is that entry's
+abbrev pub GoesOn : Session → ℕ → Replay → Replay → Answer → Type 0
+GoesOn session client before after answer = (h : List Entry) (e : Entry) → next_entry session h client ≡ Some e → IsReplay session h before → IsReplay session (h ++ e ∷ []) after × (answer ≡ answer_of e)
+
+-- the text holds the comments of a history
+pub record IsCommented (h : List Entry) (text : List ℕ) : Type 0 where
+  pub text_is : text ≡ codes "P6\n" ++ flat_map line_text (comments (map told_call h))
+  pub lines : length h < 2 ^ 32 → All IsComment (comments (map told_call h))
