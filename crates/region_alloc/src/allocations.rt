@@ -11,7 +11,7 @@ use std::marker::Model;
 use window_stack::Stack;
 
 /// A region for each of the 32 slots.
-#[derive(Drop)]
+#[derive(Debug, Drop)]
 pub struct Allocation {
     regions: Vec<Region>,
 }

@@ -48,6 +48,7 @@ impl Shape {
     /// A shape of those cells, which it copies.
     pub fn new(alloc: Global, w: u32, h: u32, cells: &[u32]) -> Result<Shape, ShapeStop>
         ensures made { IfOk result (λ shape. shape ≡ record { w = w; h = h; cells = cells.now }) }
+        ensures good { IfOk result (λ _. AreSides w h × (length cells.now ≡ w * h)) }
         ensures bad_size { (result ≡ Err (ShapeStop.BadSize w h)) ↔ ¬ AreSides w h }
         ensures bad_cells { (result ≡ Err (ShapeStop.BadCells (length cells.now))) ↔ (AreSides w h × (length cells.now ≡ w * h → ⊥)) }
         ensures no_other { IfErr result (λ stop. (stop ≡ ShapeStop.BadSize w h) ⊎ (stop ≡ ShapeStop.BadCells (length cells.now)) ⊎ (stop ≡ ShapeStop.OutOfMemory)) }

@@ -23,7 +23,7 @@ use std::marker::Model;
 use window_stack::{Stack, stack_of_windows};
 
 /// Windows from front to back, with a region for each slot.
-#[derive(Drop)]
+#[derive(Debug, Drop)]
 pub struct Arrangement {
     size: Size,
     windows: Vec<WindowView>,
@@ -240,7 +240,7 @@ impl Arrangement {
 }
 
 /// A new window's slot, and the windows with it.
-#[derive(Drop)]
+#[derive(Debug, Drop)]
 pub struct Created {
     pub slot: u32,
     pub after: Arrangement,

@@ -9,7 +9,7 @@ use qcop_channels::{Channels, PreparedJoin, PreparedSend};
 use qws_base::{Bytes, WindowView};
 
 /// What an accepted command does to channels and mailboxes, with all memory that it takes.
-#[derive(Drop)]
+#[derive(Debug, Drop)]
 pub enum MailChange {
     /// Nothing.
     Nothing,

@@ -20,7 +20,7 @@ use std::sync::Arc;
 
 /// The state of the server, for a screen of a size and a backdrop: windows from front to back, the cursor, channels and
 /// mailboxes, and a revision for each slot.
-#[derive(Drop)]
+#[derive(Debug, Drop)]
 pub struct Core {
     backdrop: Rgb,
     held: Held,

@@ -10,7 +10,7 @@ use std::alloc::Global;
 use std::sync::Arc;
 
 /// The state of the server. Windows with their regions, and the cursor, are shared with plans that leave them.
-#[derive(Drop)]
+#[derive(Debug, Drop)]
 pub struct Held {
     pub arrangement: Arc<Arrangement>,
     pub revisions: [u64; 32],
@@ -19,7 +19,7 @@ pub struct Held {
 }
 
 /// A reply, and what the next state needs; where the command is refused that is the present one.
-#[derive(Drop)]
+#[derive(Debug, Drop)]
 pub struct Planned {
     pub reply: Reply,
     pub arrangement: Arc<Arrangement>,

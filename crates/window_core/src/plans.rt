@@ -11,7 +11,7 @@ use std::marker::Model;
 
 /// The step of a client's command: a copy of the command, the reply, and what the next state needs. Where the command is
 /// refused, its state is the present one.
-#[derive(Drop)]
+#[derive(Debug, Drop)]
 pub struct Plan {
     pub(crate) client: u32,
     pub(crate) command: Command,

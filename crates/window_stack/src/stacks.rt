@@ -18,7 +18,7 @@ use std::marker::Model;
 
 /// The windows from front to back, layer 1 before layer 0: at most 32, each with a slot of its own. Contracts see a list of
 /// windows with their slot, owner and layer, at (0, 0) and without rectangles.
-#[derive(Drop)]
+#[derive(Debug, Drop)]
 pub struct Stack {
     windows: Vec<StackedWindow>,
 }
