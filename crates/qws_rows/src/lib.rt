@@ -12,8 +12,6 @@ mod paint_rows;
 #[cfg(test)]
 mod region_rows;
 #[cfg(test)]
-mod script_rows;
-#[cfg(test)]
 mod shape_rows;
 #[cfg(test)]
 mod table_rows;

@@ -34,14 +34,14 @@ reads_on said ws is = ap (λ (r : Result Before Cause). r or_else asset_in said 
 
 -- ---- fonts and images, before any call
 
-asset_with : (said : Session) (ws : List (List ℕ)) → said.calls ≡ [] → asset_in said ws ≡ (asset_read said.assets ws >>= λ asset. Ok (and_asset said asset))
+pub asset_with : (said : Session) (ws : List (List ℕ)) → said.calls ≡ [] → asset_in said ws ≡ (asset_read said.assets ws >>= λ asset. Ok (and_asset said asset))
 asset_with said ws none = ap (λ (calls : List CallLine). cond (length calls == 0) (asset_read said.assets ws >>= λ asset. Ok (and_asset said asset)) (Err Form)) none
 
 pub reads_asset : (said : Session) (ws : List (List ℕ)) (asset : Asset) → is_end_line ws ≡ false → said.calls ≡ [] → asset_read said.assets ws ≡ Ok asset → line_in (Within said) ws ≡ Ok (and_asset said asset)
 reads_asset said ws asset on none read =
     reads_on said ws on ∙ ap (λ (r : Result Before Cause). r or_else call_in said ws) (asset_with said ws none ∙ ap (λ (r : Result Asset Cause). r >>= λ a. Ok (and_asset said a)) read)
 
-other_cause : (c : Cause) (r : Result Before Cause) → (c ≡ Form → ⊥) → ((Err c) or_else r) ≡ Err c
+pub other_cause : (c : Cause) (r : Result Before Cause) → (c ≡ Form → ⊥) → ((Err c) or_else r) ≡ Err c
 other_cause Form r apart = absurd (apart refl)
 other_cause Number r apart = refl
 other_cause Range r apart = refl

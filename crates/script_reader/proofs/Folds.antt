@@ -1,14 +1,21 @@
 -- One line more is read, or the last one.
-use Rattle.std.proofs.Common.{◌≡◌, ℕ, ◌+◌, ◌≤◌, ◌<◌, List, [], ◌∷◌, ◌++◌, length, Bool, true, false, cond, Result, Ok, Err, Option, None, Some, refl, ap, sym, ◌∙◌, subst, arith, append-nil, append_assoc, length-append}
+use Rattle.std.proofs.Common.{◌≡◌, ℕ, ◌+◌, ◌-◌, ◌≤◌, ◌<◌, List, [], ◌∷◌, ◌++◌, length, Bool, true, false, cond, Result, Ok, Err, Option, None, Some, refl, ap, sym, ◌∙◌, subst, arith, append-nil, append_assoc, length-append}
 use Rattle.std.specs.Prelude.{◌==◌, MatchOption}
-use Rattle.std.specs.List.{flat_map, join_with_byte, list_any}
+use Rattle.std.specs.List.{flat_map, join_with_byte, list_any, All}
+use Rattle.std.proofs.lemmas.List.Elements.{All-get_or}
 use Rattle.std.proofs.lemmas.List.Splits.{join_with_byte-slice_split, length-slice_split}
 use Rattle.std.proofs.lemmas.Grind.{flat_map-append}
 use Rattle.std.proofs.lemmas.Bool.Decides.{nat_tests}
 use Rattle.script_grammar.specs.Judging.{◌>>=◌}
 use Rattle.script_grammar.specs.Spelling.{words_of}
 use Rattle.script_grammar.specs.Printing.{ended_line}
-use Rattle.script_grammar.specs.Reading.{Before, Nothing, is_blank, by_words, line_in, text_in, said_at_end, last_in, at_line, and_then, script_from, text_lines, script_of}
+use Rattle.glyph_masks.specs.Glyphs.{FontView}
+use Rattle.script_grammar.specs.Session.{Session, fonts_of, latest, no_font}
+use Rattle.script_grammar.specs.Limits.{IsSession}
+use Rattle.script_grammar.specs.Laws.{IsFont}
+use Rattle.script_grammar.proofs.Law.{stock}
+use Rattle.script_reader.specs.ReadTo.{IsReadTo}
+use Rattle.script_grammar.specs.Reading.{Before, Nothing, Within, is_blank, by_words, line_in, text_in, said_at_end, last_in, at_line, and_then, script_from, text_lines, script_of}
 use Rattle.script_grammar.specs.declared.lines.Cause.{Cause}
 use Rattle.script_grammar.specs.declared.lines.Cause.TheVariants.{Form, End}
 use Rattle.script_grammar.proofs.Sound.{lines_before, Reached, text_step}
@@ -130,3 +137,25 @@ match_none P Q o e h = subst (λ p. MatchOption p P Q) e h
 
 pub match_some : {A : Type 0} (P : Type 0) (Q : A → Type 0) (o : Option A) (x : A) → o ≡ Some x → MatchOption o P Q → Q x
 match_some P Q o x e h = subst (λ p. MatchOption p P Q) e h
+
+-- ---- a line behind the head, by its words
+
+pub within_by : (said : Session) (text : List ℕ) → text_in (Within said) text ≡ by_words (Within said) text
+unfolding text_in
+within_by said text = refl
+
+latest_of : (fonts : List FontView) → All IsFont fonts → (latest fonts).height ≤ 32
+latest_of [] all = omega arith
+latest_of (font ∷ fonts) all = (All-get_or IsFont (font ∷ fonts) (length (font ∷ fonts) - 1) no_font (omega arith) all).most_height
+
+-- the latest font has few rows
+pub within_open : (said : Session) → IsSession said → IsOpen (Within said)
+within_open said limits = latest_of (fonts_of said.assets) (stock said limits).fonts
+
+-- ---- the lines behind the head
+
+pub to_up_to : {bytes rest : List ℕ} {said : Session} {n : ℕ} → IsReadTo bytes said n rest → IsReadUpTo bytes (Within said) n rest
+to_up_to at = record { reads = at.reads; text = at.text; reached = at.limits; number = at.number }
+
+pub to_within : {bytes rest : List ℕ} {said : Session} {n : ℕ} → IsReadUpTo bytes (Within said) n rest → IsReadTo bytes said n rest
+to_within at = record { reads = at.reads; text = at.text; limits = at.reached; number = at.number }

@@ -1,3 +1,5 @@
 -- A line more.
 pub mod Folds
 pub mod Behind
+pub mod Assets
+pub mod Kept

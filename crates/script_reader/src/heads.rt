@@ -11,7 +11,7 @@ use script_store::Head;
 
 /// What stands before a line of the head.
 #[derive(Clone, Copy, Debug, PartialEq, Eq)]
-pub enum HeadStage {
+pub(crate) enum HeadStage {
     /// Nothing.
     Start,
     /// A line `depth`.
@@ -28,7 +28,7 @@ pub enum HeadStage {
 
 /// What stands behind a line of the head.
 #[derive(Clone, Copy, Debug, PartialEq, Eq)]
-pub enum Next {
+pub(crate) enum Next {
     /// A part of the head.
     Part { stage: HeadStage },
     /// All of it.
@@ -78,7 +78,7 @@ fn counted(depth: Depth, size: Size, backdrop: Rgb, words: &[&[u8]]) -> Result<N
 
 /// What stands behind a line of the head with these words, or the first cause why it may not stand there.
 #[tactic(auto, unfolding(script_grammar::specs::Reading::line_in))]
-pub fn head_words(stage: HeadStage, words: &[&[u8]]) -> Result<Next, Cause>
+pub(crate) fn head_words(stage: HeadStage, words: &[&[u8]]) -> Result<Next, Cause>
     ensures { seen next_before result ≡ line_in (stage_before stage) (map (λ w. w.now) words.now) }
 {
     match stage {

@@ -1,10 +1,10 @@
-//! The head of a script read from its bytes, or the first bad line and its first cause; and the line of a call behind it.
+//! What a script says, read from its bytes in one pass; or the first bad line and its first cause.
 #![tactic(auto)]
 
 mod bodies;
 mod heads;
 mod openings;
+mod readings;
 
-pub use bodies::{Body, body_call};
-pub use heads::{HeadStage, Next};
-pub use openings::opening;
+pub use bodies::Body;
+pub use readings::found;

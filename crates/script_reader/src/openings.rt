@@ -42,7 +42,7 @@ fn last_cause(alloc: Global, stage: HeadStage, rest: &[u8]) -> Result<Cause, Out
 
 /// The head, the number of the line behind it and the bytes from that line on; or the first bad line and its first cause,
 /// where the bytes are bad within the head.
-pub fn opening(
+pub(crate) fn opening(
     alloc: Global,
     bytes: &[u8],
 ) -> Result<Result<(Head, u64, &[u8]), (u64, Cause)>, OutOfMemory>

@@ -2,5 +2,4 @@
 pub mod Seams
 pub mod Counts
 pub mod Begins
-pub mod Kept
 pub mod Behind

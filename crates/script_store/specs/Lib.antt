@@ -1,4 +1,4 @@
 pub mod Cuts
+pub mod Heads
 pub mod Places
-pub mod Stored
 pub mod Laws

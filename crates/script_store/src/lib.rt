@@ -1,12 +1,13 @@
-//! A script as it is kept: its bytes, what its head says, its fonts and images, and where the line of each call begins.
+//! What is kept of a script beside its bytes: what its head says, and where the line of each call begins; and where bytes are
+//! cut into lines.
 #![tactic(auto)]
 
 mod cuts;
+mod heads;
 mod laws;
 mod places;
-mod script;
 
 pub use cuts::{cut, split};
+pub use heads::Head;
 pub use laws::splits_behind_script;
-pub use places::LinePlace;
-pub use script::{Head, Script};
+pub use places::{LinePlace, Starts, client_starts, paint_places, step_places};

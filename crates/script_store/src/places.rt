@@ -7,17 +7,17 @@ use qws_base::OutOfMemory;
 use std::alloc::Global;
 use std::marker::Model;
 
-/// The line of a call: whose it is, the number of bytes before it, and whether it paints.
+/// The line of a call: the number of bytes before it, whose it is, and whether it paints.
 #[derive(Clone, Copy, Debug, PartialEq, Eq)]
 pub struct LinePlace {
-    pub client: u32,
     pub start: usize,
+    pub client: u32,
     pub paints: bool,
 }
 
 /// Where the lines of a client begin. Contracts see a list.
 #[derive(Debug, Drop)]
-pub(crate) struct Starts {
+pub struct Starts {
     items: Vec<usize>,
 }
 
@@ -33,7 +33,7 @@ impl Starts {
     ghost use Rattle.std.specs.Prelude.{◌≡◌, ◌<◌, length, slice_index};
 
     /// Where the client's line `k` begins.
-    pub(crate) fn at(&self, k: u64) -> usize
+    pub fn at(&self, k: u64) -> usize
         requires { k < length self.now }
         ensures { result ≡ slice_index self.now k }
     {
@@ -42,7 +42,7 @@ impl Starts {
 }
 
 /// How many lines of a client give a command.
-pub(crate) fn step_places(places: &[LinePlace], client: u32) -> u64
+pub fn step_places(places: &[LinePlace], client: u32) -> u64
     ensures { result ≡ length (filter (λ place. not place.paints) (filter (is_place_by client) places.now)) }
 {
     let lines = places.iter().filter(|place| place.client == client);
@@ -50,7 +50,7 @@ pub(crate) fn step_places(places: &[LinePlace], client: u32) -> u64
 }
 
 /// How many lines of a client paint.
-pub(crate) fn paint_places(places: &[LinePlace], client: u32) -> u64
+pub fn paint_places(places: &[LinePlace], client: u32) -> u64
     ensures { result ≡ length (filter (λ place. place.paints) (filter (is_place_by client) places.now)) }
 {
     let lines = places.iter().filter(|place| place.client == client);
@@ -72,7 +72,7 @@ fn starts_of_client(alloc: Global, places: &[LinePlace], client: u32) -> Result<
 }
 
 /// Where the lines of each client begin, of so many.
-pub(crate) fn client_starts(
+pub fn client_starts(
     alloc: Global,
     places: &[LinePlace],
     clients: u32,

@@ -1,5 +1,5 @@
-pub mod Cuts
-pub mod Digits
-pub mod LineByLine
-pub mod Places
-pub mod Within
+-- What is kept of a script, the line of a call read again, and the first of a client's calls.
+pub mod Kept
+pub mod Found
+pub mod Backs
+pub mod Fronts

@@ -1,8 +1,4 @@
-pub mod Session
-pub mod Causes
-pub mod Words
-pub mod Grammar
-pub mod Index
-pub mod Limits
-pub mod Reading
-pub mod Meaning
+pub mod Stored
+pub mod Named
+pub mod Calls
+pub mod Laws

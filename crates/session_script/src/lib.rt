@@ -1,15 +1,15 @@
-//! Session scripts: what their lines say, and what the lines mean as a session goes on.
+//! Session scripts: the bytes of one are read, and printed back; what it says of the screen, the clients and their calls; and
+//! what each call means after the replies to those before it.
 #![tactic(auto)]
 
-mod calls;
-mod causes;
-mod index;
+mod laws;
 mod lines;
 mod names;
-mod reading;
 mod script;
-mod words;
 
-pub use lines::{CallLine, Cause, LineCall, ScriptStop, Window};
-pub use names::{Call, Names, Place};
+pub use laws::whole_where_all;
+pub use names::Names;
 pub use script::Script;
+pub use script_grammar::{Cause, ScriptStop};
+pub use script_names::Call;
+pub use script_store::split;

@@ -1,71 +1,78 @@
-//! Scripts, and how bytes read as one.
-ghost use Rattle.std.specs.Prelude.{◌≡◌, ◌<◌, ◌≤◌, Some, length, slice_get, IfOk};
+//! Scripts.
+ghost use Rattle.std.specs.Prelude.{◌≡◌, ◌<◌, Some, length, slice_get, IfOk};
 ghost use Rattle.std.specs.Option.{option_map};
-ghost use Rattle.session_script.specs.Session.{Session, step_count, paint_count, lines_by, call_line};
-ghost use Rattle.session_script.specs.Limits.{IsCall, IsSession, IsCalls};
-ghost use Rattle.session_script.specs.Reading.{Reads};
-ghost use Rattle.session_script.specs.Grammar.{script_of, session_of};
+ghost use Rattle.script_grammar.specs.Session.{step_count, paint_count, lines_by, call_line, fonts_of, images_of};
+ghost use Rattle.script_grammar.specs.Limits.{IsSession};
+ghost use Rattle.script_grammar.specs.Printing.{script_text, line_words};
+ghost use Rattle.script_grammar.specs.Spelling.{words_of};
+ghost use Rattle.script_grammar.specs.Reading.{script_of};
+ghost use Rattle.script_grammar.specs.Answers.{ReaderAnswers};
+ghost use Rattle.session_script.specs.Stored.{said_by, IsFoundIn};
 
-use crate::index::{Places, index};
-use crate::lines::{CallLine, Cause, Head, ScriptStop};
-use crate::reading::script;
+use gfx_fills::Image;
+use glyph_masks::Font;
 use qws_base::{Depth, OutOfMemory, Rgb, Size};
+use script_grammar::ScriptStop;
+use script_reader::{Body, found};
+use script_store::{Head, LinePlace, Starts, client_starts, cut, paint_places, step_places};
 use std::alloc::Global;
 use std::marker::Model;
 
-/// A script. Contracts see what it says.
+/// A script. It keeps its bytes, and where the line of each call begins, so that a call is read from its own line. Contracts
+/// see what it says.
 #[derive(Debug, Drop)]
 pub struct Script {
-    depth: Depth,
-    size: Size,
-    backdrop: Rgb,
-    clients: u32,
-    calls: Vec<CallLine>,
-    index: Vec<Places>,
+    bytes: Vec<u8>,
+    head: Head,
+    fonts: Vec<Font>,
+    images: Vec<Image>,
+    places: Vec<LinePlace>,
+    starts: Vec<Starts>,
 }
 
 impl Model for Script {
-    ghost use Rattle.session_script.specs.Session.{Session};
-    ghost use Rattle.session_script.specs.Limits.{IsKept};
+    ghost use Rattle.std.specs.Prelude.{◌≡◌};
+    ghost use Rattle.script_grammar.specs.Session.{Session};
+    ghost use Rattle.script_store.specs.Places.{starts_of};
+    ghost use Rattle.session_script.specs.Stored.{said_by, IsFoundIn};
 
     ghost Value = { Session };
 
-    ghost view = { λ s. record { depth = s.depth; size = s.size; backdrop = s.backdrop; clients = s.clients; calls = s.calls.items } };
+    ghost view = { λ s. said_by s.bytes.items };
 
-    ghost invariant = { λ s. IsKept (record { depth = s.depth; size = s.size; backdrop = s.backdrop; clients = s.clients; calls = s.calls.items }) s.index.items };
+    ghost invariant = { λ s. IsFoundIn s.bytes.items s.head s.fonts.items s.images.items s.places.items × (s.starts.items ≡ starts_of s.head.clients s.places.items) };
 }
 
-// The script of a head and its calls.
-pub(crate) fn made(alloc: Global, head: Head, calls: Vec<CallLine>) -> Result<Script, OutOfMemory>
-    requires clients { head.clients ≤ 1 }
-    requires calls { IsCalls head.clients calls.items }
-    ensures { IfOk result (λ script. script ≡ session_of head calls.items) }
+// The script of bytes that were read, with what was found in them.
+fn made(alloc: Global, bytes: Vec<u8>, head: Head, body: Body) -> Result<Script, OutOfMemory>
+    requires { IsFoundIn bytes.items head body.fonts.items body.images.items body.places.items }
+    ensures { IfOk result (λ script. script ≡ said_by bytes.items) }
 {
-    let _screen = head.size.w();
-    let _colour = head.backdrop.value();
-    let index = index(alloc, &calls, head.clients)?;
+    let starts = client_starts(alloc, &body.places, head.clients)?;
     Ok(Script {
-        depth: head.depth,
-        size: head.size,
-        backdrop: head.backdrop,
-        clients: head.clients,
-        calls,
-        index,
+        bytes,
+        head,
+        fonts: body.fonts,
+        images: body.images,
+        places: body.places,
+        starts,
     })
 }
 
 impl Script {
-    /// What bytes say. Bad exactly where they are no script; so far with line 0 and the cause `Form`, whatever is bad.
+    /// Reads a script: the bytes are all of it. Bad exactly where they are no script, with the first bad line, counted from 1,
+    /// and the first cause that applies to it. The bytes are gone through once.
     pub fn read(alloc: Global, bytes: &[u8]) -> Result<Script, ScriptStop>
-        ensures reads { Reads result (script_of bytes.now) }
+        ensures reads { ReaderAnswers result (script_of bytes.now) }
         ensures session { IfOk result (λ script. IsSession script) }
+        ensures printed { IfOk result (λ script. bytes.now ≡ script_text script) }
     {
-        match script(alloc, bytes)? {
-            Ok(script) => Ok(script),
-            Err(_) => Err(ScriptStop::Bad {
-                line: 0,
-                cause: Cause::Form,
-            }),
+        match found(alloc, bytes)? {
+            Ok((head, body)) => {
+                let kept = bytes.to_vec(alloc)?;
+                Ok(made(alloc, kept, head, body)?)
+            }
+            Err((line, cause)) => Err(ScriptStop::Bad { line, cause }),
         }
     }
 
@@ -73,21 +80,21 @@ impl Script {
     pub fn depth(&self) -> Depth
         ensures { result ≡ self.now.depth }
     {
-        self.depth
+        self.head.depth
     }
 
     /// The size of the screen.
     pub fn size(&self) -> Size
         ensures { result ≡ self.now.size }
     {
-        self.size
+        self.head.size
     }
 
     /// The backdrop, as a colour.
     pub fn backdrop(&self) -> Rgb
         ensures { result ≡ self.now.backdrop }
     {
-        self.backdrop
+        self.head.backdrop
     }
 
     /// How many clients there are.
@@ -95,33 +102,35 @@ impl Script {
         ensures clients { result ≡ self.now.clients }
         ensures session { IsSession self.now }
     {
-        self.clients
+        self.head.clients
+    }
+
+    /// The fonts, in the order of their lines.
+    pub(crate) fn fonts(&self) -> &[Font]
+        ensures { result.now ≡ fonts_of self.now.assets }
+    {
+        &self.fonts
+    }
+
+    /// The images, in the order of their lines.
+    pub(crate) fn images(&self) -> &[Image]
+        ensures { result.now ≡ images_of self.now.assets }
+    {
+        &self.images
     }
 
     /// How many commands a client gives. None where there is no such client.
     pub fn steps(&self, client: u32) -> u64
         ensures { result ≡ step_count self.now client }
     {
-        let steps = self
-            .calls
-            .iter()
-            .filter(|line| line.client == client)
-            .filter(|line| !line.call.is_paint())
-            .count();
-        steps as u64
+        step_places(&self.places, client)
     }
 
     /// How often a client paints. Not at all where there is no such client.
     pub fn paints(&self, client: u32) -> u64
         ensures { result ≡ paint_count self.now client }
     {
-        let paints = self
-            .calls
-            .iter()
-            .filter(|line| line.client == client)
-            .filter(|line| line.call.is_paint())
-            .count();
-        paints as u64
+        paint_places(&self.places, client)
     }
 
     /// How many calls there are.
@@ -129,7 +138,7 @@ impl Script {
         ensures calls { result ≡ length self.now.calls }
         ensures session { IsSession self.now }
     {
-        self.calls.len() as u64
+        self.places.len() as u64
     }
 
     /// The client of call line `j`, counted from 0.
@@ -138,16 +147,28 @@ impl Script {
         ensures client { option_map (λ line. line.client) (slice_get self.now.calls j) ≡ Some result }
         ensures below { result < self.now.clients }
     {
-        self.calls[j as usize].client
+        self.places[j as usize].client
     }
 
-    /// A client's call `k`, counted from 0.
-    pub(crate) fn line(&self, client: u32, k: u64) -> &CallLine
-        requires { k < length (lines_by self.now client) }
-        ensures line { Some result.now ≡ call_line self.now client k }
-        ensures call { IsCall result.now.call }
+    /// The bytes of a client's call `k`, counted from 0, without the line feed. No other line is looked at.
+    pub(crate) fn line(&self, client: u32, k: u64) -> &[u8]
+        requires { k < length (lines_by client self.now.calls) }
+        ensures words { option_map line_words (call_line self.now client k) ≡ Some (words_of result.now) }
+        ensures session { IsSession self.now }
     {
-        let places = &self.index[client as usize];
-        &self.calls[places.at(k)]
+        let starts = &self.starts[client as usize];
+        let start = starts.at(k);
+        let rest = &self.bytes[start..];
+        match cut(rest) {
+            Some((line, _)) => line,
+            None => unreachable!(),
+        }
+    }
+
+    /// The bytes of the script.
+    pub fn print(&self, alloc: Global) -> Result<Vec<u8>, OutOfMemory>
+        ensures { IfOk result (λ bytes. bytes.items ≡ script_text self.now) }
+    {
+        Ok(self.bytes.to_vec(alloc)?)
     }
 }

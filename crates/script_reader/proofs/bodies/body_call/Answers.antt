@@ -3,7 +3,7 @@ use Rattle.script_grammar.specs.declared.lines.Cause.{Cause}
 use Rattle.script_grammar.specs.declared.lines.CallLine.{CallLine}
 use Rattle.script_counts.specs.Counted.{IsBehind, ReadBehind}
 use Rattle.script_store.specs.declared.places.LinePlace.{LinePlace}
-use Rattle.script_store.specs.declared.script.Head.{Head}
+use Rattle.script_store.specs.declared.heads.Head.{Head}
 use Rattle.script_reader.proofs.Behind.{call_ok, place_more}
 use Rattle.script_reader.proofs.bodies.body_call.Goals as goal
 
@@ -13,7 +13,7 @@ returns-in_ok-push-in-Ok c = λ said limits kept at.
     let line = c.in-Ok.line in
     let paints = c.paints-paints.result in
     let words = map (λ (w : Bor (List ℕ)). w.now) c.args.words.now in
-    let behind : IsBehind c.args.head.clients c.deref.result.now c.len-images.result body.counts said = record {
+    let behind : IsBehind c.args.head.now.clients c.deref.result.now c.len-images.result body.counts said = record {
       same_clients = ap (λ (h : Head). h.clients) kept.same_head;
       same_fonts = kept.same_fonts ∙ sym c.deref.ensures.value;
       same_images = omega (arith, ap length kept.same_images, c.len-images.ensures, body.images.ok.0);

@@ -1,2 +1,0 @@
--- The line of a call reads back.
-pub mod Backs

@@ -1,7 +1,0 @@
-use Rattle.std.proofs.Common.{◌∙◌, ap}
-use Rattle.script_grammar.specs.Session.{Session}
-use Rattle.script_store.specs.declared.script.Head.{Head}
-use Rattle.script_store.proofs.script.Script.backdrop.Goals as goal
-
-pub returns : goal.returns
-returns c = ap (λ (h : Head). h.backdrop) c.self.invariant.0.head ∙ ap (λ (v : Session). v.backdrop) c.self.view_is
