@@ -2,4 +2,8 @@
 #![tactic(auto)]
 
 #[cfg(test)]
+mod check_rows;
+#[cfg(test)]
+mod long_rows;
+#[cfg(test)]
 mod replay_rows;

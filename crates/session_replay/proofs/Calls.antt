@@ -8,11 +8,11 @@ use Rattle.qws_base.specs.Scenes.{Setting}
 use Rattle.qws_base.specs.Histories.{Entry, World, calls_of, world_after}
 use Rattle.window_core.specs.CoreViews.{CoreView}
 use Rattle.pixel_model.specs.Drawn.{Drawn}
-use Rattle.session_script.specs.Session.{Session, session_setting, is_paint}
-use Rattle.session_script.specs.Meaning.{meaning}
-use Rattle.session_script.specs.declared.lines.CallLine.{CallLine}
-use Rattle.session_script.specs.declared.names.Call.{Call}
-use Rattle.session_replay.specs.Runs.{entry_in, entry_behind, places_in}
+use Rattle.script_grammar.specs.Session.{Session, session_setting, is_paint}
+use Rattle.script_names.specs.Meaning.{meaning}
+use Rattle.script_grammar.specs.declared.lines.CallLine.{CallLine}
+use Rattle.script_names.specs.declared.calls.Call.{Call}
+use Rattle.session_replay.specs.Runs.{entry_in, entry_behind, names_in}
 use Rattle.session_replay.specs.Steps.{IsWorld}
 
 pub some_same : {A B : Type 0} (f : A → B) (o : Option A) (x : A) (y : B) → o ≡ Some x → option_map f o ≡ Some y → y ≡ f x
@@ -20,7 +20,7 @@ some_same f None x y found made = cc
 some_same f (Some a) x y found made = let is : a ≡ x = cc in let is_y : f a ≡ y = cc in sym is_y ∙ ap f is
 
 -- a fact on the entry of a call in the world of core and canvas is one on the entry behind the history
-pub on_line : (F : Setting → World → Entry → Type 0) (session : Session) (h : List Entry) (line : CallLine) (client : ℕ) (call : Call) (core : CoreView) (canvas : Drawn) → call ≡ meaning (places_in session h client) line.call → IsWorld session h core canvas
+pub on_line : (F : Setting → World → Entry → Type 0) (session : Session) (h : List Entry) (line : CallLine) (client : ℕ) (call : Call) (core : CoreView) (canvas : Drawn) → call ≡ meaning session (names_in session h client) line.call → IsWorld session h core canvas
     → ((k : ℕ) → F canvas.setting (record { state = core.state; scene = canvas.scene }) (entry_in canvas.setting (record { state = core.state; scene = canvas.scene }) client k call))
     → F (session_setting session) (world_after (session_setting session) h) (entry_behind session h client line)
 on_line F session h line client call core canvas is world fact =

@@ -1,3 +1,4 @@
+pub mod Counts
 pub mod Named
 pub mod LineOrder
 pub mod Placed
@@ -8,3 +9,8 @@ pub mod Going
 pub mod Finishing
 pub mod Revisions
 pub mod Painted
+pub mod Running
+pub mod Due
+pub mod Pixels
+pub mod Judged
+pub mod OneRun

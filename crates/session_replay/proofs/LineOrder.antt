@@ -8,11 +8,12 @@ use Rattle.std.proofs.Math.Seq.{take-length}
 use Rattle.std.proofs.lemmas.List.Elements.{All-cons, All-nil}
 use Rattle.std.proofs.lemmas.Bool.{eq-eqb}
 use Rattle.qws_base.specs.Histories.{Entry, client_of_entry, calls_of, world_after}
-use Rattle.session_script.specs.Session.{Session, session_setting, is_by, lines_by, call_line}
-use Rattle.session_script.specs.Limits.{IsSession, IsLine}
-use Rattle.session_script.specs.declared.lines.CallLine.{CallLine}
-use Rattle.session_script.specs.declared.lines.LineCall.TheVariants.{Create}
+use Rattle.script_grammar.specs.Session.{Session, session_setting, is_by, lines_by, call_line}
+use Rattle.script_grammar.specs.Limits.{IsSession}
+use Rattle.script_grammar.specs.declared.lines.CallLine.{CallLine}
+use Rattle.script_grammar.specs.declared.lines.LineCall.TheVariants.{Create}
 use Rattle.session_replay.specs.Runs.{entry_behind, next_entry, named, in_order, IsRunOf}
+use Rattle.session_replay.proofs.Counts.{known_clients}
 use Rattle.session_replay.proofs.Named.{named_more, named_legal, named_whole, entry_client}
 
 -- a line where there is none
@@ -61,7 +62,7 @@ same_count client (e ∷ h) (l ∷ lines) same =
 pub next_line_is : (session : Session) (j : ℕ) → j < length session.calls → map client_of_entry (front session j) ≡ first_clients session j → call_line session (line_at session j).client (length (calls_of (front session j) (line_at session j).client)) ≡ Some (line_at session j)
 next_line_is session j below same =
     let line : CallLine = line_at session j in
-    ap (slice_get (lines_by session line.client)) (same_count line.client (front session j) (take j session.calls) same)
+    ap (slice_get (lines_by line.client session.calls)) (same_count line.client (front session j) (take j session.calls) same)
     ∙ kth (is_by line.client) session.calls j no_line below (eq-eqb line.client line.client refl)
 
 -- one more line
@@ -93,13 +94,13 @@ pub in_order_clients : (session : Session) → map client_of_entry (in_order ses
 in_order_clients session =
     ap (map client_of_entry) (sym (all_front session)) ∙ front_clients session (length session.calls) (omega arith) ∙ ap (map (λ (l : CallLine). l.client)) (take-length session.calls)
 
-others : (clients : ℕ) (h : List Entry) (lines : List CallLine) → map client_of_entry h ≡ map (λ l. l.client) lines → All (IsLine clients) lines → All (λ e. client_of_entry e < clients) h
+others : (clients : ℕ) (h : List Entry) (lines : List CallLine) → map client_of_entry h ≡ map (λ l. l.client) lines → All (λ l. l.client < clients) lines → All (λ e. client_of_entry e < clients) h
 others clients [] lines same each = All-nil (λ e. client_of_entry e < clients)
 others clients (e ∷ h) [] same each = cc
 others clients (e ∷ h) (l ∷ lines) same each =
     let first : client_of_entry e ≡ l.client = cc in
     let rest : map client_of_entry h ≡ map (λ (l : CallLine). l.client) lines = cc in
-    All-cons (λ e. client_of_entry e < clients) e h (subst (λ c. c < clients) (sym first) (each 0 l (omega arith)).client)
+    All-cons (λ e. client_of_entry e < clients) e h (subst (λ c. c < clients) (sym first) (each 0 l (omega arith)))
     (others clients h lines rest (λ k d below. each (suc k) d (omega arith)))
 
 -- the calls in the order of the lines are a run of the session
@@ -107,7 +108,7 @@ pub in_order_run : (session : Session) → IsSession session → IsRunOf session
 in_order_run session limits = record {
   legal = named_legal session (map (λ (l : CallLine). l.client) session.calls);
   whole = λ client below. named_whole session (map (λ (l : CallLine). l.client) session.calls) client (same_count client (in_order session) session.calls (in_order_clients session));
-  no_other = others session.clients (in_order session) session.calls (in_order_clients session) limits.calls.each;
+  no_other = others session.clients (in_order session) session.calls (in_order_clients session) (known_clients session limits);
 }
 
 -- ---- the same, by the list of clients
@@ -150,6 +151,12 @@ order_length session order j is within =
 -- below the end that is told
 pub line_within : (j end many : ℕ) → j < end → end ≡ many → j < many
 line_within j end many below is = omega (arith, below, is)
+
+-- the clients of one line more
+pub clients_more : (session : Session) (j client : ℕ) (before new : List ℕ) → j < length session.calls → before ≡ first_clients session j → client ≡ (line_at session j).client → new ≡ before ++ client ∷ [] → new ≡ first_clients session (j + 1)
+clients_more session j client before new below so_far is more =
+    more ∙ ap (λ (cs : List ℕ). cs ++ client ∷ []) so_far ∙ ap (λ (k : ℕ). first_clients session j ++ k ∷ []) is
+    ∙ sym (ap (map (λ (l : CallLine). l.client)) (take_more session.calls j no_line below) ∙ map-append (λ (l : CallLine). l.client) (take j session.calls) (line_at session j ∷ []))
 
 -- the entry of line j
 abbrev pub order_entry : Session → ℕ → Entry

@@ -8,13 +8,14 @@ use Rattle.std.proofs.lemmas.Option.{slice_get_within, get_or_from_slice_get}
 use Rattle.std.proofs.lemmas.Bool.Decides.{nat_tests}
 use Rattle.qws_base.specs.Scenes.{Setting}
 use Rattle.qws_base.specs.Histories.{Entry, World, client_of_entry, calls_of, next_world, Answers, world_from, world_after, opening_world, IsLegalFrom, IsLegal}
-use Rattle.session_script.specs.Session.{Session, session_setting, lines_by, call_line}
-use Rattle.session_script.specs.Meaning.{meaning, learned_by_entry, places_after}
-use Rattle.session_script.specs.declared.lines.CallLine.{CallLine}
-use Rattle.session_script.specs.declared.names.Place.{Place}
-use Rattle.session_script.specs.declared.names.Call.{Call}
-use Rattle.session_script.specs.declared.names.Call.TheVariants.{Step, Paint}
-use Rattle.session_replay.specs.Runs.{entry_in, places_in, entry_behind, next_entry, named_from, named, IsCallOf, IsCallsFrom, IsWhole}
+use Rattle.script_grammar.specs.Session.{Session, session_setting, lines_by, call_line}
+use Rattle.script_names.specs.Meaning.{meaning}
+use Rattle.script_names.specs.Naming.{Naming, no_names, learned_by_entry, names_after}
+use Rattle.script_grammar.specs.declared.lines.CallLine.{CallLine}
+use Rattle.script_names.specs.declared.calls.Call.{Call}
+use Rattle.script_names.specs.declared.calls.Call.TheVariants.{Step, Paint}
+use Rattle.session_script.specs.Calls.{IsCallOf, IsCallsFrom, IsWhole}
+use Rattle.session_replay.specs.Runs.{entry_in, names_in, entry_behind, next_entry, named_from, named}
 
 -- ---- histories that grow at their end
 
@@ -76,7 +77,7 @@ named_legal session clients =
     let setting : Setting = session_setting session in
     legal_more setting (opening_world setting) h e legal
     (subst (Answers setting (world_after setting h)) (sym next.is_entry)
-    (entry_answers setting (world_after setting h) c (length (calls_of h c)) (meaning (places_in session h c) next.line.call))))
+    (entry_answers setting (world_after setting h) c (length (calls_of h c)) (meaning session (names_in session h c) next.line.call))))
     [] clients tt
 
 -- ---- a client's calls
@@ -84,47 +85,47 @@ named_legal session clients =
 pub calls_more : (h : List Entry) (e : Entry) (client : ℕ) → calls_of (h ++ e ∷ []) client ≡ calls_of h client ++ cond (client_of_entry e == client) (e ∷ []) []
 calls_more h e client = filter-append (λ (e : Entry). client_of_entry e == client) h (e ∷ [])
 
-calls_snoc : (client k : ℕ) (places : List Place) (lines : List CallLine) (entries : List Entry) (line : CallLine) (e : Entry) → IsCallsFrom client k places lines entries → IsCallOf client (k + length entries) (meaning (places_after places lines entries) line.call) e → IsCallsFrom client k places (lines ++ line ∷ []) (entries ++ e ∷ [])
-calls_snoc client k places [] [] line e so_far is = (subst (λ m. IsCallOf client m (meaning places line.call) e) (add-zero k) is, tt)
-calls_snoc client k places [] (f ∷ entries) line e so_far is = absurd so_far
-calls_snoc client k places (l ∷ lines) [] line e so_far is = absurd so_far
-calls_snoc client k places (l ∷ lines) (f ∷ entries) line e so_far is =
+calls_snoc : (session : Session) (client k : ℕ) (slots : Naming) (lines : List CallLine) (entries : List Entry) (line : CallLine) (e : Entry) → IsCallsFrom session client k slots lines entries → IsCallOf client (k + length entries) (meaning session (names_after slots lines entries) line.call) e → IsCallsFrom session client k slots (lines ++ line ∷ []) (entries ++ e ∷ [])
+calls_snoc session client k slots [] [] line e so_far is = (subst (λ m. IsCallOf client m (meaning session slots line.call) e) (add-zero k) is, tt)
+calls_snoc session client k slots [] (f ∷ entries) line e so_far is = absurd so_far
+calls_snoc session client k slots (l ∷ lines) [] line e so_far is = absurd so_far
+calls_snoc session client k slots (l ∷ lines) (f ∷ entries) line e so_far is =
     let n : k + suc (length entries) ≡ (k + 1) + length entries = omega arith in (
       so_far.0,
-      calls_snoc client (k + 1) (learned_by_entry places l.call f) lines entries line e so_far.1
-          (subst (λ m. IsCallOf client m (meaning (places_after (learned_by_entry places l.call f) lines entries) line.call) e) n is),
+      calls_snoc session client (k + 1) (learned_by_entry slots l.call f) lines entries line e so_far.1
+          (subst (λ m. IsCallOf client m (meaning session (names_after (learned_by_entry slots l.call f) lines entries) line.call) e) n is),
     )
 
 -- only as many lines as entries give names
-places_front : (places : List Place) (lines : List CallLine) (entries : List Entry) → places_after places (take (length entries) lines) entries ≡ places_after places lines entries
-places_front places [] [] = refl
-places_front places [] (e ∷ entries) = refl
-places_front places (l ∷ lines) [] = refl
-places_front places (l ∷ lines) (e ∷ entries) = places_front (learned_by_entry places l.call e) lines entries
+names_front : (slots : Naming) (lines : List CallLine) (entries : List Entry) → names_after slots (take (length entries) lines) entries ≡ names_after slots lines entries
+names_front slots [] [] = refl
+names_front slots [] (e ∷ entries) = refl
+names_front slots (l ∷ lines) [] = refl
+names_front slots (l ∷ lines) (e ∷ entries) = names_front (learned_by_entry slots l.call e) lines entries
 
 -- the first of a client's calls stand in the history
 pub record IsSoFar (session : Session) (client : ℕ) (h : List Entry) : Type 0 where
-  pub calls : IsCallsFrom client 0 [] (take (length (calls_of h client)) (lines_by session client)) (calls_of h client)
-  pub within : length (calls_of h client) ≤ length (lines_by session client)
+  pub calls : IsCallsFrom session client 0 no_names (take (length (calls_of h client)) (lines_by client session.calls)) (calls_of h client)
+  pub within : length (calls_of h client) ≤ length (lines_by client session.calls)
 
 so_far_same : (session : Session) (client : ℕ) (h new : List Entry) → calls_of new client ≡ calls_of h client → IsSoFar session client h → IsSoFar session client new
 so_far_same session client h new same so_far = record {
-  calls = subst (λ (cs : List Entry). IsCallsFrom client 0 [] (take (length cs) (lines_by session client)) cs) (sym same) so_far.calls;
-  within = subst (λ (cs : List Entry). length cs ≤ length (lines_by session client)) (sym same) so_far.within;
+  calls = subst (λ (cs : List Entry). IsCallsFrom session client 0 no_names (take (length cs) (lines_by client session.calls)) cs) (sym same) so_far.calls;
+  within = subst (λ (cs : List Entry). length cs ≤ length (lines_by client session.calls)) (sym same) so_far.within;
 }
 
-so_far_own : (session : Session) (client : ℕ) (h new : List Entry) (line : CallLine) (e : Entry) → calls_of new client ≡ calls_of h client ++ e ∷ [] → call_line session client (length (calls_of h client)) ≡ Some line → IsCallOf client (length (calls_of h client)) (meaning (places_in session h client) line.call) e → IsSoFar session client h → IsSoFar session client new
+so_far_own : (session : Session) (client : ℕ) (h new : List Entry) (line : CallLine) (e : Entry) → calls_of new client ≡ calls_of h client ++ e ∷ [] → call_line session client (length (calls_of h client)) ≡ Some line → IsCallOf client (length (calls_of h client)) (meaning session (names_in session h client) line.call) e → IsSoFar session client h → IsSoFar session client new
 so_far_own session client h new line e own found is so_far =
     let cs : List Entry = calls_of h client in
-    let lines : List CallLine = lines_by session client in
+    let lines : List CallLine = lines_by client session.calls in
     let n : ℕ = length cs in
     let long : length (cs ++ e ∷ []) ≡ n + 1 = length-append cs (e ∷ []) in
     let below : n < length lines = slice_get_within lines n line found in
     let front : take (n + 1) lines ≡ take n lines ++ line ∷ [] = take_more lines n line below ∙ ap (λ (l : CallLine). take n lines ++ l ∷ []) (get_or_from_slice_get lines n line line found) in
-    let snoc = calls_snoc client 0 [] (take n lines) cs line e so_far.calls (subst (λ (ps : List Place). IsCallOf client (0 + n) (meaning ps line.call) e) (sym (places_front [] lines cs)) (subst (λ m. IsCallOf client m (meaning (places_in session h client) line.call) e) (let zero_n : n ≡ 0 + n = omega arith in zero_n) is)) in
+    let snoc = calls_snoc session client 0 no_names (take n lines) cs line e so_far.calls (subst (λ (ps : Naming). IsCallOf client (0 + n) (meaning session ps line.call) e) (sym (names_front no_names lines cs)) (subst (λ m. IsCallOf client m (meaning session (names_in session h client) line.call) e) (let zero_n : n ≡ 0 + n = omega arith in zero_n) is)) in
     record {
-      calls = subst (λ (all : List Entry). IsCallsFrom client 0 [] (take (length all) lines) all) (sym own)
-          (subst (λ m. IsCallsFrom client 0 [] (take m lines) (cs ++ e ∷ [])) (sym long) (subst (λ (ls : List CallLine). IsCallsFrom client 0 [] ls (cs ++ e ∷ [])) (sym front) snoc));
+      calls = subst (λ (all : List Entry). IsCallsFrom session client 0 no_names (take (length all) lines) all) (sym own)
+          (subst (λ m. IsCallsFrom session client 0 no_names (take m lines) (cs ++ e ∷ [])) (sym long) (subst (λ (ls : List CallLine). IsCallsFrom session client 0 no_names ls (cs ++ e ∷ [])) (sym front) snoc));
       within = omega (arith, ap length own, long);
     }
 
@@ -137,21 +138,21 @@ named_so_far session client clients =
     step : (h : List Entry) (c : ℕ) (e : Entry) → IsNext session h c e → IsSoFar session client h → (b : Bool) → (c == client) ≡ b → IsSoFar session client (h ++ e ∷ [])
     step h c e next so_far true same =
         let is : c ≡ client = grind (arith, nat_tests) in
-        let made : client_of_entry e ≡ c = ap client_of_entry next.is_entry ∙ entry_client (session_setting session) (world_after (session_setting session) h) c (length (calls_of h c)) (meaning (places_in session h c) next.line.call) in
+        let made : client_of_entry e ≡ c = ap client_of_entry next.is_entry ∙ entry_client (session_setting session) (world_after (session_setting session) h) c (length (calls_of h c)) (meaning session (names_in session h c) next.line.call) in
         so_far_own session client h (h ++ e ∷ []) next.line e
         (calls_more h e client ∙ ap (λ k. calls_of h client ++ cond (k == client) (e ∷ []) []) made ∙ ap (λ b. calls_of h client ++ cond b (e ∷ []) []) same)
         (subst (λ k. call_line session k (length (calls_of h k)) ≡ Some next.line) is next.is_line)
-        (subst (λ k. IsCallOf k (length (calls_of h k)) (meaning (places_in session h k) next.line.call) e) is
-        (subst (IsCallOf c (length (calls_of h c)) (meaning (places_in session h c) next.line.call)) (sym next.is_entry) (entry_is_call (session_setting session) (world_after (session_setting session) h) c (length (calls_of h c)) (meaning (places_in session h c) next.line.call))))
+        (subst (λ k. IsCallOf k (length (calls_of h k)) (meaning session (names_in session h k) next.line.call) e) is
+        (subst (IsCallOf c (length (calls_of h c)) (meaning session (names_in session h c) next.line.call)) (sym next.is_entry) (entry_is_call (session_setting session) (world_after (session_setting session) h) c (length (calls_of h c)) (meaning session (names_in session h c) next.line.call))))
         so_far
     step h c e next so_far false other =
-        let made : client_of_entry e ≡ c = ap client_of_entry next.is_entry ∙ entry_client (session_setting session) (world_after (session_setting session) h) c (length (calls_of h c)) (meaning (places_in session h c) next.line.call) in
+        let made : client_of_entry e ≡ c = ap client_of_entry next.is_entry ∙ entry_client (session_setting session) (world_after (session_setting session) h) c (length (calls_of h c)) (meaning session (names_in session h c) next.line.call) in
         so_far_same session client h (h ++ e ∷ [])
         (calls_more h e client ∙ ap (λ k. calls_of h client ++ cond (k == client) (e ∷ []) []) made ∙ ap (λ b. calls_of h client ++ cond b (e ∷ []) []) other ∙ append-nil (calls_of h client))
         so_far
 
 -- a client's calls are whole where they are as many as its lines
-pub named_whole : (session : Session) (clients : List ℕ) (client : ℕ) → length (calls_of (named session clients) client) ≡ length (lines_by session client) → IsWhole session (named session clients) client
+pub named_whole : (session : Session) (clients : List ℕ) (client : ℕ) → length (calls_of (named session clients) client) ≡ length (lines_by client session.calls) → IsWhole session (calls_of (named session clients) client) client
 named_whole session clients client many =
     let so_far = named_so_far session client clients in
-    subst (λ (ls : List CallLine). IsCallsFrom client 0 [] ls (calls_of (named session clients) client)) (ap (λ n. take n (lines_by session client)) many ∙ take-length (lines_by session client)) so_far.calls
+    subst (λ (ls : List CallLine). IsCallsFrom session client 0 no_names ls (calls_of (named session clients) client)) (ap (λ n. take n (lines_by client session.calls)) many ∙ take-length (lines_by client session.calls)) so_far.calls

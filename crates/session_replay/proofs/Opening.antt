@@ -1,30 +1,42 @@
 -- A replay before its first call.
-use Rattle.std.proofs.Common.{◌≡◌, ℕ, ◌<◌, List, [], ◌∷◌, length, refl, ap, sym, ◌∙◌, subst}
-use Rattle.std.proofs.lemmas.Option.{get_or_from_slice_get}
+use Rattle.std.proofs.Common.{◌≡◌, ℕ, ◌+◌, ◌<◌, List, [], ◌∷◌, ◌++◌, get_or, length, refl, ap, sym, ◌∙◌, subst, inl, inr, arith}
+use Rattle.std.proofs.lemmas.Bool.{cases_lt}
+use Rattle.std.proofs.lemmas.List.{get_or_append_left}
+use Rattle.std.proofs.Math.Seq.{get_or-append_seam}
 use Rattle.qws_base.specs.Sides.{Sides}
 use Rattle.qws_base.specs.States.{opening_state}
 use Rattle.qws_base.specs.Scenes.{setting_of, opening_scene}
 use Rattle.qws_base.specs.declared.colours.Depth.{Depth}
 use Rattle.window_core.specs.CoreViews.{CoreView}
 use Rattle.pixel_model.specs.Drawn.{Drawn}
-use Rattle.session_script.specs.Session.{Session, session_setting, lines_by}
-use Rattle.session_script.specs.Meaning.{places_after}
-use Rattle.session_script.specs.declared.lines.CallLine.{CallLine}
+use Rattle.script_grammar.specs.Session.{Session, session_setting, lines_by}
+use Rattle.script_names.specs.Naming.{naming, no_names, names_after}
+use Rattle.script_grammar.specs.declared.lines.CallLine.{CallLine}
 use Rattle.session_replay.specs.declared.callers.Caller.{Caller}
-use Rattle.session_replay.specs.Steps.{IsCaller, IsNewCaller, AreCallers, IsWorld}
+use Rattle.session_replay.specs.Steps.{IsCaller, IsWorld}
 
-no_places : (lines : List CallLine) → places_after [] lines [] ≡ []
-no_places [] = refl
-no_places (line ∷ lines) = refl
+no_entries : (lines : List CallLine) → names_after no_names lines [] ≡ no_names
+no_entries [] = refl
+no_entries (line ∷ lines) = refl
 
-pub opening_callers : (session : Session) (callers : List Caller) → length callers ≡ session.clients → ((client : ℕ) → client < session.clients → IsNewCaller session callers client) → AreCallers session [] callers
-opening_callers session callers many each = record {
-  many = many;
-  each = λ client d known.
-      let new : Caller = record { names = record { client = client; places = [] }; made = 0; calls = length (lines_by session client) } in
-      subst (IsCaller session [] client) (sym (get_or_from_slice_get callers client new d (each client known)))
-      (record { client_is = refl; places = sym (no_places (lines_by session client)); made = refl; calls = refl });
+-- a client without names and before its first call
+pub opening_caller : (session : Session) (client : ℕ) (caller : Caller) → caller.names.client ≡ client → naming caller.names.slots ≡ no_names → caller.made ≡ 0 → caller.calls ≡ length (lines_by client session.calls) → IsCaller session [] client caller
+opening_caller session client caller by_client none made calls = record {
+  client_is = by_client;
+  slots = none ∙ sym (no_entries (lines_by client session.calls));
+  made = made;
+  calls = calls;
 }
+
+-- one client more
+pub callers_push : (session : Session) (callers : List Caller) (new : Caller) → ((client : ℕ) (d : Caller) → client < length callers → IsCaller session [] client (get_or callers client d)) → IsCaller session [] (length callers) new
+    → (client : ℕ) (d : Caller) → client < length callers + 1 → IsCaller session [] client (get_or (callers ++ new ∷ []) client d)
+callers_push session callers new each is client d below = elim (cases_lt client (length callers)) [
+  | inl before ↦ subst (IsCaller session [] client) (sym (get_or_append_left callers (new ∷ []) d client before)) (each client d before)
+  | inr last ↦
+      let same : length callers ≡ client = omega (arith, last, below) in
+      subst (λ k. IsCaller session [] k (get_or (callers ++ new ∷ []) k d)) same (subst (IsCaller session [] (length callers)) (sym (get_or-append_seam callers new [] d)) is)
+]
 
 pub opening_replay_world : (session : Session) (core : CoreView) (canvas : Drawn) (size : Sides) (depth : Depth) (backdrop shown : ℕ) → size ≡ session.size → depth ≡ session.depth → shown ≡ session.backdrop
     → core ≡ record { size = size; backdrop = backdrop; state = opening_state } → canvas ≡ record { setting = setting_of size depth shown; scene = opening_scene (setting_of size depth shown) } → IsWorld session [] core canvas

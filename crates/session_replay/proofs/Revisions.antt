@@ -11,7 +11,7 @@ use Rattle.qws_base.specs.declared.commands.Command.{Command}
 use Rattle.qws_base.proofs.StepLaws.{refused_law, revision_law}
 use Rattle.window_core.specs.CoreViews.{CoreView, CanRise}
 use Rattle.pixel_model.specs.Drawn.{Drawn}
-use Rattle.session_script.specs.Session.{Session, session_setting}
+use Rattle.script_grammar.specs.Session.{Session, session_setting}
 use Rattle.session_replay.specs.Steps.{IsWorld}
 
 -- ---- a step raises a revision by at most one

@@ -13,11 +13,10 @@ use Rattle.qws_base.specs.Histories.{Entry, World, client_of_entry, calls_of, ne
 use Rattle.qws_base.specs.Histories.Entry.{Step as StepEntry, Paint as PaintEntry}
 use Rattle.window_core.specs.CoreViews.{CoreView}
 use Rattle.pixel_model.specs.Drawn.{Drawn}
-use Rattle.session_script.specs.Session.{Session, session_setting, lines_by, call_line}
-use Rattle.session_script.specs.Meaning.{learned_by_entry, places_after}
-use Rattle.session_script.specs.declared.lines.CallLine.{CallLine}
-use Rattle.session_script.specs.declared.lines.LineCall.{LineCall}
-use Rattle.session_script.specs.declared.names.Place.{Place}
+use Rattle.script_grammar.specs.Session.{Session, session_setting, lines_by, call_line}
+use Rattle.script_names.specs.Naming.{Naming, naming, no_names, learned_by_entry, names_after}
+use Rattle.script_grammar.specs.declared.lines.CallLine.{CallLine}
+use Rattle.script_grammar.specs.declared.lines.LineCall.{LineCall}
 use Rattle.session_replay.specs.declared.answers.Answer.{Answer}
 use Rattle.session_replay.specs.declared.callers.Caller.{Caller}
 use Rattle.session_journal.specs.Texts.{Told, told_call, comment, comments, entries_of, line_text, reply_words, paint_words}
@@ -93,39 +92,39 @@ commented_next h e text new client made answer is by_client number answered writ
 
 -- ---- the callers
 
-learned_same : (places : List Place) (call : LineCall) (e : Entry) → learned_by_entry places call e ≡ learned_by_answer places call (answer_of e)
-learned_same places call (StepEntry client command reply) = refl
-learned_same places call (PaintEntry client slot tag sheet reply) = refl
+learned_same : (slots : Naming) (call : LineCall) (e : Entry) → learned_by_entry slots call e ≡ learned_by_answer slots call (answer_of e)
+learned_same slots call (StepEntry client command reply) = refl
+learned_same slots call (PaintEntry client slot tag sheet reply) = refl
 
 -- one more entry gives the names of its line
-places_snoc : (places : List Place) (lines : List CallLine) (entries : List Entry) (line : CallLine) (e : Entry) → slice_get lines (length entries) ≡ Some line → places_after places lines (entries ++ e ∷ []) ≡ learned_by_entry (places_after places lines entries) line.call e
-places_snoc places [] entries line e found = cc
-places_snoc places (l ∷ []) [] line e found = let is : l ≡ line = cc in ap (λ (x : CallLine). learned_by_entry places x.call e) is
-places_snoc places (l ∷ m ∷ lines) [] line e found = let is : l ≡ line = cc in ap (λ (x : CallLine). learned_by_entry places x.call e) is
-places_snoc places (l ∷ lines) (f ∷ entries) line e found = places_snoc (learned_by_entry places l.call f) lines entries line e found
+names_snoc : (slots : Naming) (lines : List CallLine) (entries : List Entry) (line : CallLine) (e : Entry) → slice_get lines (length entries) ≡ Some line → names_after slots lines (entries ++ e ∷ []) ≡ learned_by_entry (names_after slots lines entries) line.call e
+names_snoc slots [] entries line e found = cc
+names_snoc slots (l ∷ []) [] line e found = let is : l ≡ line = cc in ap (λ (x : CallLine). learned_by_entry slots x.call e) is
+names_snoc slots (l ∷ m ∷ lines) [] line e found = let is : l ≡ line = cc in ap (λ (x : CallLine). learned_by_entry slots x.call e) is
+names_snoc slots (l ∷ lines) (f ∷ entries) line e found = names_snoc (learned_by_entry slots l.call f) lines entries line e found
 
 other_caller : (session : Session) (h : List Entry) (e : Entry) (client : ℕ) (caller : Caller) → (client_of_entry e == client) ≡ false → IsCaller session h client caller → IsCaller session (h ++ e ∷ []) client caller
 other_caller session h e client caller other is =
     let same : calls_of (h ++ e ∷ []) client ≡ calls_of h client = calls_more h e client ∙ ap (λ b. calls_of h client ++ cond b (e ∷ []) []) other ∙ append-nil (calls_of h client) in
     record {
       client_is = is.client_is;
-      places = is.places ∙ ap (λ (cs : List Entry). places_after [] (lines_by session client) cs) (sym same);
+      slots = is.slots ∙ ap (λ (cs : List Entry). names_after no_names (lines_by client session.calls) cs) (sym same);
       made = is.made ∙ ap length (sym same);
       calls = is.calls;
     }
 
-own_caller : (session : Session) (h : List Entry) (e : Entry) (client : ℕ) (caller new : Caller) (line : CallLine) → client_of_entry e ≡ client → call_line session client (length (calls_of h client)) ≡ Some line → IsCaller session h client caller → new.names.client ≡ client → new.calls ≡ caller.calls → new.made ≡ caller.made + 1 → new.names.places ≡ learned_by_entry caller.names.places line.call e → IsCaller session (h ++ e ∷ []) client new
+own_caller : (session : Session) (h : List Entry) (e : Entry) (client : ℕ) (caller new : Caller) (line : CallLine) → client_of_entry e ≡ client → call_line session client (length (calls_of h client)) ≡ Some line → IsCaller session h client caller → new.names.client ≡ client → new.calls ≡ caller.calls → new.made ≡ caller.made + 1 → naming new.names.slots ≡ learned_by_entry (naming caller.names.slots) line.call e → IsCaller session (h ++ e ∷ []) client new
 own_caller session h e client caller new line own found is stays all more learns =
     let same : calls_of (h ++ e ∷ []) client ≡ calls_of h client ++ e ∷ [] = calls_more h e client ∙ ap (λ b. calls_of h client ++ cond b (e ∷ []) []) (eq-eqb (client_of_entry e) client own) in
     record {
       client_is = stays;
-      places = learns ∙ ap (λ (ps : List Place). learned_by_entry ps line.call e) is.places ∙ sym (places_snoc [] (lines_by session client) (calls_of h client) line e found) ∙ ap (places_after [] (lines_by session client)) (sym same);
+      slots = learns ∙ ap (λ (ps : Naming). learned_by_entry ps line.call e) is.slots ∙ sym (names_snoc no_names (lines_by client session.calls) (calls_of h client) line e found) ∙ ap (names_after no_names (lines_by client session.calls)) (sym same);
       made = more ∙ omega (arith, is.made, ap length same ∙ length-append (calls_of h client) (e ∷ []));
       calls = all ∙ is.calls;
     }
 
 pub callers_next : (session : Session) (h : List Entry) (e : Entry) (line : CallLine) (callers : List Caller) (client : ℕ) (caller new : Caller) (answer : Answer) → AreCallers session h callers → client < session.clients → caller ≡ get_or callers client caller
-    → client_of_entry e ≡ client → call_line session client (length (calls_of h client)) ≡ Some line → answer ≡ answer_of e → new.names.client ≡ caller.names.client → new.calls ≡ caller.calls → new.made ≡ caller.made + 1 → new.names.places ≡ learned_by_answer caller.names.places line.call answer
+    → client_of_entry e ≡ client → call_line session client (length (calls_of h client)) ≡ Some line → answer ≡ answer_of e → new.names.client ≡ caller.names.client → new.calls ≡ caller.calls → new.made ≡ caller.made + 1 → naming new.names.slots ≡ learned_by_answer (naming caller.names.slots) line.call answer
     → AreCallers session (h ++ e ∷ []) (set callers client new)
 callers_next session h e line callers client caller new answer are within at own found answered stays all more learns =
     let mine : IsCaller session h client caller = subst (IsCaller session h client) (sym at) (are.each client caller within) in
@@ -134,7 +133,7 @@ callers_next session h e line callers client caller new answer are within at own
       each = λ c d known. elim (cases_eq c client) [
         | inl same ↦ subst (λ (x : Caller). IsCaller session (h ++ e ∷ []) c x) (sym (ap (λ (k : ℕ). get_or (set callers client new) k d) same ∙ get_or-set_same callers client new d (omega (arith, are.many))))
             (subst (λ (k : ℕ). IsCaller session (h ++ e ∷ []) k new) (sym same) (own_caller session h e client caller new line own found mine (stays ∙ mine.client_is) all more
-            (learns ∙ ap (learned_by_answer caller.names.places line.call) answered ∙ sym (learned_same caller.names.places line.call e))))
+            (learns ∙ ap (learned_by_answer (naming caller.names.slots) line.call) answered ∙ sym (learned_same (naming caller.names.slots) line.call e))))
         | inr apart ↦ subst (λ (x : Caller). IsCaller session (h ++ e ∷ []) c x) (sym (get_or-set_other callers client c new d apart)) (other_caller session h e c (get_or callers c d) (let e_client : client_of_entry e ≡ client = own in grind (arith, nat_tests)) (are.each c d known))
       ];
     }

@@ -5,7 +5,7 @@ use Rattle.qws_base.specs.Shown.{shown_picture}
 use Rattle.session_journal.specs.Texts.{told_call, file_of_entries}
 use Rattle.session_journal.specs.Commented.{commented_client}
 use Rattle.session_journal.specs.declared.files.File.{File}
-use Rattle.session_script.specs.Session.{Session, session_setting}
+use Rattle.script_grammar.specs.Session.{Session, session_setting}
 use Rattle.session_replay.specs.Runs.{named, IsRunOf}
 
 -- the picture that is shown after a history of a session

@@ -1,3 +1,5 @@
 pub mod Runs
 pub mod Files
 pub mod Steps
+pub mod Verdicts
+pub mod Laws

@@ -1,5 +1,5 @@
 -- What a replay holds behind a history.
-use Rattle.std.specs.Prelude.{ℕ, ◌≡◌, ◌<◌, ◌+◌, ◌^◌, List, [], ◌∷◌, ◌++◌, length, map, slice_index_or, slice_get, Some, All}
+use Rattle.std.specs.Prelude.{ℕ, ◌≡◌, ◌<◌, ◌≤◌, ◌+◌, ◌^◌, List, [], ◌∷◌, ◌++◌, length, map, slice_index_or, Some, All}
 use lib.Chars.{codes}
 use Rattle.std.specs.List.{flat_map}
 use Rattle.qws_base.specs.States.{State}
@@ -10,15 +10,14 @@ use Rattle.window_core.specs.CoreViews.{CoreView, CanRise}
 use Rattle.pixel_model.specs.Drawn.{Drawn}
 use Rattle.session_journal.specs.Texts.{told_call, comments, line_text, reply_words, paint_words}
 use Rattle.session_journal.specs.Grammar.{IsComment}
-use Rattle.session_script.specs.Session.{Session, session_setting, lines_by}
-use Rattle.session_script.specs.Meaning.{learned}
-use Rattle.session_script.specs.declared.lines.LineCall.{LineCall}
-use Rattle.session_script.specs.declared.names.Place.{Place}
+use Rattle.script_grammar.specs.Session.{Session, session_setting, lines_by}
+use Rattle.script_grammar.specs.declared.lines.LineCall.{LineCall}
+use Rattle.script_names.specs.Naming.{Naming, naming, learned}
 use Rattle.session_replay.specs.declared.answers.Answer.{Answer}
 use Rattle.session_replay.specs.declared.answers.Answer.TheVariants.{Step as StepAnswer, Paint as PaintAnswer}
 use Rattle.session_replay.specs.declared.callers.Caller.{Caller}
 use Rattle.session_replay.specs.declared.replays.Replay.{Replay}
-use Rattle.session_replay.specs.Runs.{places_in, next_entry}
+use Rattle.session_replay.specs.Runs.{names_in, next_entry}
 
 -- the answer that an entry has
 abbrev pub answer_of : Entry → Answer
@@ -30,25 +29,34 @@ answer_words (StepAnswer reply) = reply_words reply
 answer_words (PaintAnswer reply) = paint_words reply
 
 -- the names after an answer
-abbrev pub learned_by_answer : List Place → LineCall → Answer → List Place
-learned_by_answer places call (StepAnswer reply) = learned places call reply
-learned_by_answer places call (PaintAnswer reply) = places
+abbrev pub learned_by_answer : Naming → LineCall → Answer → Naming
+learned_by_answer slots call (StepAnswer reply) = learned slots call reply
+learned_by_answer slots call (PaintAnswer reply) = slots
 
 -- a client's names after a history, how many of its calls stand in it, and how many it has in all
 pub record IsCaller (session : Session) (h : List Entry) (client : ℕ) (caller : Caller) : Type 0 where
   pub client_is : caller.names.client ≡ client
-  pub places : caller.names.places ≡ places_in session h client
+  pub slots : naming caller.names.slots ≡ names_in session h client
   pub made : caller.made ≡ length (calls_of h client)
-  pub calls : caller.calls ≡ length (lines_by session client)
-
--- at a client's place stands the client, without names and before its first call
-abbrev pub IsNewCaller : Session → List Caller → ℕ → Type 0
-IsNewCaller session callers client = slice_get callers client ≡ Some (record { names = record { client = client; places = [] }; made = 0; calls = length (lines_by session client) })
+  pub calls : caller.calls ≡ length (lines_by client session.calls)
 
 -- one for each client
 pub record AreCallers (session : Session) (h : List Entry) (callers : List Caller) : Type 0 where
   pub many : length callers ≡ session.clients
   pub each : (client : ℕ) (d : Caller) → client < session.clients → IsCaller session h client (slice_index_or callers client d)
+
+-- a client is one of these and has a call left
+pub record HasLeft (callers : List Caller) (client : ℕ) : Type 0 where
+  pub known : client < length callers
+  pub left : (d : Caller) → (slice_index_or callers client d).made < (slice_index_or callers client d).calls
+
+-- it is none of these, or has no call left
+abbrev pub HasNone : List Caller → ℕ → Type 0
+HasNone callers client = client < length callers → (d : Caller) → (slice_index_or callers client d).calls ≤ (slice_index_or callers client d).made
+
+-- none of these has a call left
+abbrev pub AreAllMade : List Caller → Type 0
+AreAllMade callers = All (λ caller. caller.made ≡ caller.calls) callers
 
 -- core and canvas are the world after a history
 pub record IsWorld (session : Session) (h : List Entry) (core : CoreView) (canvas : Drawn) : Type 0 where
@@ -72,14 +80,14 @@ pub record IsReady (session : Session) (client : ℕ) (replay : Replay) (caller 
   pub within : client < length replay.callers.items
   pub sixteen : client < 16
   pub named : caller.names.client ≡ client
-  pub left : caller.made < length (lines_by session client)
+  pub left : caller.made < length (lines_by client session.calls)
   pub few : caller.made + 1 < 2 ^ 64
   pub room : CanRise replay.core.state
   pub size : replay.canvas.setting.size ≡ replay.core.size
 
 -- the caller of a client
 abbrev pub caller_at : Replay → ℕ → Caller
-caller_at replay client = slice_index_or replay.callers.items client (record { names = record { client = 0; places = [] }; made = 0; calls = 0 })
+caller_at replay client = slice_index_or replay.callers.items client (record { names = record { client = 0; slots = [] }; made = 0; calls = 0 })
 
 -- behind whatever history a replay was, it is now behind the client's next entry too, and the answer is that entry's
 abbrev pub GoesOn : Session → ℕ → Replay → Replay → Answer → Type 0

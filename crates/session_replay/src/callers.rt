@@ -2,7 +2,7 @@
 use session_script::Names;
 
 /// A client's names, how many of its calls were made, and how many it has.
-#[derive(Debug, Drop)]
+#[derive(Drop)]
 pub struct Caller {
     pub names: Names,
     pub made: u64,

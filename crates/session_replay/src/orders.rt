@@ -1,10 +1,10 @@
 //! The calls of a session in the order of their lines.
-ghost use Rattle.std.specs.Prelude.{◌≡◌, ◌<◌, ◌+◌, ◌^◌, take, map, length, IfOk, OnOk};
+ghost use Rattle.std.specs.Prelude.{◌≡◌, ◌<◌, ◌+◌, take, map, length, IfOk, OnOk};
 ghost use Rattle.session_journal.specs.Texts.{file_bytes};
 ghost use Rattle.session_journal.specs.Grammar.{IsFile};
-ghost use Rattle.session_script.specs.Limits.{IsSession};
+ghost use Rattle.script_grammar.specs.Limits.{IsSession};
 ghost use Rattle.session_replay.specs.Runs.{named, in_order};
-ghost use Rattle.session_replay.specs.Files.{file_of, IsFileOf};
+ghost use Rattle.session_replay.specs.Files.{file_of};
 ghost use Rattle.session_replay.specs.Steps.{IsReplay, IsCommented};
 
 use crate::replays::{Replay, call_next, opening, shown};
@@ -77,7 +77,7 @@ fn finish(alloc: Global, script: &Script, run: Run) -> Result<Vec<u8>, OutOfMemo
     requires replay { IsReplay script.now (in_order script.now) run.replay }
     requires text { IsCommented (in_order script.now) run.text.items }
     ensures text { IfOk result (λ bytes. bytes.items ≡ file_bytes (file_of script.now (in_order script.now))) }
-    ensures file { length script.now.calls < 2 ^ 32 → IfOk result (λ bytes. IsFile bytes.items (file_of script.now (in_order script.now))) }
+    ensures file { IfOk result (λ bytes. IsFile bytes.items (file_of script.now (in_order script.now))) }
 {
     let Run { replay, mut text } = run;
     let picture = shown(alloc, &replay)?;
@@ -85,22 +85,14 @@ fn finish(alloc: Global, script: &Script, run: Run) -> Result<Vec<u8>, OutOfMemo
     Ok(text)
 }
 
-/// The file of the history in which the calls stand in the order of the script's lines. With fewer than 2^32 calls it is in
-/// the grammar of files.
+/// The file of the history in which the calls stand in the order of the script's lines. It is in the grammar of files.
 pub fn in_order(alloc: Global, script: &Script) -> Result<Vec<u8>, OutOfMemory>
     ensures text { IfOk result (λ bytes. bytes.items ≡ file_bytes (file_of script.now (in_order script.now))) }
-    ensures file { length script.now.calls < 2 ^ 32 → IfOk result (λ bytes. IsFile bytes.items (file_of script.now (in_order script.now))) }
+    ensures file { IfOk result (λ bytes. IsFile bytes.items (file_of script.now (in_order script.now))) }
 {
     let _clients = script.clients();
     let order = clients_of(alloc, script)?;
     let run = run_lines(alloc, script, &order)?;
     let bytes = finish(alloc, script, run)?;
     Ok(bytes)
-}
-
-/// The comment lines of that file name its history, and this is a run of the session.
-pub fn file_names_run(script: &Script)
-    ensures { IsFileOf script.now (file_of script.now (in_order script.now)) }
-{
-    let _clients = script.clients();
 }

@@ -1,9 +1,8 @@
 //! A replay: the state, the picture and the clients behind a history.
-ghost use Rattle.std.specs.Prelude.{◌≡◌, ◌<◌, ℕ, [], IfOk, length};
+ghost use Rattle.std.specs.Prelude.{◌≡◌, [], IfOk};
 ghost use Rattle.qws_base.specs.Scenes.{Setting};
-ghost use Rattle.session_script.specs.Session.{lines_by};
 ghost use Rattle.qws_base.specs.Shown.{shown_picture};
-ghost use Rattle.session_replay.specs.Steps.{caller_at, IsNewCaller, IsReplay, IsReady, GoesOn};
+ghost use Rattle.session_replay.specs.Steps.{caller_at, IsCaller, AreCallers, IsReplay, IsReady, GoesOn};
 
 use crate::answers::Answer;
 use crate::callers::Caller;
@@ -25,7 +24,7 @@ pub struct Replay {
 
 // A client before its first call.
 fn new_caller(alloc: Global, script: &Script, client: u32) -> Result<Caller, OutOfMemory>
-    ensures { IfOk result (λ caller. caller ≡ record { names = record { client = client; places = [] }; made = 0; calls = length (lines_by script.now client) }) }
+    ensures { IfOk result (IsCaller script.now [] client) }
 {
     let _all = script.calls();
     let names = Names::new(alloc, client)?;
@@ -38,12 +37,11 @@ fn new_caller(alloc: Global, script: &Script, client: u32) -> Result<Caller, Out
 }
 
 // The clients before their first calls.
-fn new_callers(alloc: Global, script: &Script, clients: u32) -> Result<Vec<Caller>, OutOfMemory>
-    ensures many { IfOk result (λ callers. length callers.items ≡ clients) }
-    ensures each { IfOk result (λ callers. (client : ℕ) → client < clients → IsNewCaller script.now callers.items client) }
+fn new_callers(alloc: Global, script: &Script) -> Result<Vec<Caller>, OutOfMemory>
+    ensures { IfOk result (λ callers. AreCallers script.now [] callers.items) }
 {
     let mut callers = Vec::new(alloc);
-    for client in 0..clients {
+    for client in 0..script.clients() {
         let caller = new_caller(alloc, script, client)?;
         callers.push(caller)?;
     }
@@ -58,7 +56,7 @@ pub fn opening(alloc: Global, script: &Script) -> Result<Replay, OutOfMemory>
     let core = Core::new(alloc, size, script.backdrop())?;
     let canvas = Canvas::new(alloc, size, script.depth(), script.backdrop())?;
     let row = RowBuf::new(alloc)?;
-    let callers = new_callers(alloc, script, script.clients())?;
+    let callers = new_callers(alloc, script)?;
     Ok(Replay {
         core,
         canvas,

@@ -8,7 +8,8 @@ ghost use Rattle.qws_base.specs.Histories.{World, scene_after};
 ghost use Rattle.window_core.specs.CoreViews.{Belongs, CanRise};
 ghost use Rattle.session_journal.specs.Texts.{comment, line_text};
 ghost use Rattle.session_journal.specs.Grammar.{IsComment};
-ghost use Rattle.session_script.specs.Session.{lines_by, call_line};
+ghost use Rattle.script_grammar.specs.Session.{lines_by, call_line};
+ghost use Rattle.script_names.specs.Naming.{naming};
 ghost use Rattle.session_replay.specs.Runs.{entry_in};
 ghost use Rattle.session_replay.specs.Steps.{answer_of, answer_words, learned_by_answer, IsNextWorld};
 
@@ -150,9 +151,9 @@ fn learn_names(
     k: u64,
     answer: &Answer,
 ) -> Result<(), OutOfMemory>
-    requires { k < length (lines_by script.now names.old.client) }
+    requires { k < length (lines_by names.old.client script.now.calls) }
     ensures client { names.new.client ≡ names.old.client }
-    ensures places { OnOk result (option_map (λ line. learned_by_answer names.old.places line.call answer.now) (call_line script.now names.old.client k) ≡ Some names.new.places) }
+    ensures slots { OnOk result (option_map (λ line. learned_by_answer (naming names.old.slots) line.call answer.now) (call_line script.now names.old.client k) ≡ Some (naming names.new.slots)) }
 {
     match answer {
         Answer::Step { reply } => names.learn(alloc, script, k, reply),
@@ -167,12 +168,12 @@ pub fn learn(
     caller: &mut Caller,
     answer: &Answer,
 ) -> Result<(), OutOfMemory>
-    requires call { caller.old.made < length (lines_by script.now caller.old.names.client) }
+    requires call { caller.old.made < length (lines_by caller.old.names.client script.now.calls) }
     requires few { caller.old.made + 1 < 2 ^ 64 }
     ensures client { caller.new.names.client ≡ caller.old.names.client }
     ensures calls { caller.new.calls ≡ caller.old.calls }
     ensures made { OnOk result (caller.new.made ≡ caller.old.made + 1) }
-    ensures places { OnOk result (option_map (λ line. learned_by_answer caller.old.names.places line.call answer.now) (call_line script.now caller.old.names.client caller.old.made) ≡ Some caller.new.names.places) }
+    ensures slots { OnOk result (option_map (λ line. learned_by_answer (naming caller.old.names.slots) line.call answer.now) (call_line script.now caller.old.names.client caller.old.made) ≡ Some (naming caller.new.names.slots)) }
 {
     let made = caller.made;
     learn_names(alloc, script, &mut caller.names, made, answer)?;

@@ -1,6 +1,6 @@
 use Rattle.std.proofs.Common.{ℕ, List, take, get_or, sym, subst, arith}
 use Rattle.qws_base.specs.Histories.{Entry}
-use Rattle.session_script.specs.Session.{Session}
+use Rattle.script_grammar.specs.Session.{Session}
 use Rattle.session_replay.specs.declared.callers.Caller.{Caller}
 use Rattle.session_replay.specs.Runs.{named}
 use Rattle.session_replay.specs.Steps.{IsReplay, IsCommented, IsCaller}
