@@ -13,3 +13,4 @@ pub use laws::{redrawn_steps_are_carried, steps_ask_for_regions};
 pub use moves::{CarriedPixels, carried};
 pub use rows::write_rows;
 pub use scenes::redraw;
+pub use windows::origin_of;

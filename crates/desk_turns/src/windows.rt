@@ -20,8 +20,8 @@ pub(crate) fn owner_of(windows: &[WindowView], slot: u32) -> Option<u32>
     Some(window.owner)
 }
 
-// The origin of the window of the slot; (0, 0) where there is none.
-pub(crate) fn origin_of(windows: &[WindowView], slot: u32) -> Point
+/// The origin of the window of the slot; (0, 0) where there is none.
+pub fn origin_of(windows: &[WindowView], slot: u32) -> Point
     ensures { result ≡ origin_of windows.now slot }
 {
     match window_of(windows, slot) {

@@ -1,0 +1,10 @@
+pub mod Slots
+pub mod Owned
+pub mod Later
+pub mod FirstWords
+pub mod After
+pub mod Still
+pub mod Carried
+pub mod Ending
+pub mod Moved
+pub mod Picked

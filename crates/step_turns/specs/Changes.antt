@@ -1,0 +1,51 @@
+-- What a planned step changes on the framebuffer, and what its turn changes of the server.
+use Rattle.std.specs.Prelude.{◌≡◌, ℕ, Bool, true, false, All, Option, None, if◌then◌else◌}
+use Rattle.qws_base.specs.Points.{any_holds}
+use Rattle.qws_base.specs.RectPixels.{IsWithin}
+use Rattle.qws_base.specs.States.{State, is_refused, moved_slot}
+use Rattle.qws_base.specs.Steps.{step}
+use Rattle.qws_base.specs.declared.points.Point.{Point}
+use Rattle.qws_base.specs.declared.commands.Command.{Command}
+use Rattle.qws_base.specs.declared.commands.Command.TheVariants.{Create, Destroy, Region, Move, Raise, Lower, CursorShape, CursorMove, CursorShow, Join, Leave, Send, Take, IsRegistered}
+use Rattle.window_core.specs.CoreViews.{CoreView, PlanView}
+use Rattle.step_regions.specs.Bared.{is_lost}
+use Rattle.fb_words.specs.Views.{HeadView}
+use Rattle.desk_turns.specs.Asked.{CarriesFor}
+use Rattle.step_turns.specs.declared.changed.Changes.{Changes}
+
+-- a command on the cursor: no other changes it
+abbrev pub is_on_cursor : Command → Bool
+is_on_cursor (Create layer) = false
+is_on_cursor (Destroy slot) = false
+is_on_cursor (Region slot origin rects) = false
+is_on_cursor (Move slot origin) = false
+is_on_cursor (Raise slot) = false
+is_on_cursor (Lower slot) = false
+is_on_cursor (CursorShape w h cells) = true
+is_on_cursor (CursorMove x y) = true
+is_on_cursor (CursorShow shown) = true
+is_on_cursor (Join channel) = false
+is_on_cursor (Leave channel) = false
+is_on_cursor (Send channel message payload) = false
+is_on_cursor Take = false
+is_on_cursor (IsRegistered channel) = false
+
+-- the slot whose pixels a plan's step carries: that of an accepted move
+abbrev pub slot_carried : PlanView → Option ℕ
+slot_carried plan = if is_refused plan.reply then None else moved_slot plan.command
+
+-- the pixels that a move carries; those that lose their last owner; and whether the cursor is another
+pub record AreChangesOf (core : CoreView) (plan : PlanView) (changes : Changes) : Type 0 where
+  pub carried : CarriesFor core.size core.state.windows plan.windows (slot_carried plan) changes.carried.region changes.carried.falling changes.carried.by
+  pub bared : (p : Point) → any_holds changes.bared p ≡ is_lost core.size core.state.windows plan.windows p
+  pub on_screen : All (IsWithin core.size) changes.bared
+  pub same_cursor : changes.points ≡ false → plan.cursor ≡ core.state.cursor
+  pub other_cursor : changes.points ≡ true → plan.cursor ≡ core.state.cursor → ⊥
+
+-- the state after a plan's step
+abbrev pub state_planned : CoreView → PlanView → State
+state_planned core plan = (step core.size core.state plan.client plan.command).0
+
+-- nothing but the present table and the log has changed
+abbrev pub OnlyTurn : HeadView → HeadView → Type 0
+OnlyTurn h h' = h' ≡ record h { server = record h.server { present = h'.server.present; log = h'.server.log } }

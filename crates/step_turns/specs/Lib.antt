@@ -1,0 +1,3 @@
+pub mod Publishes
+pub mod Changes
+pub mod Written
