@@ -1,0 +1,12 @@
+pub mod Counting
+pub mod Opening
+pub mod Served
+pub mod Called
+pub mod Stepped
+pub mod Answered
+pub mod Reading
+pub mod Wholes
+pub mod OwnWindows
+pub mod Grabbing
+pub mod Upto
+pub mod Grabbed

@@ -1,0 +1,13 @@
+pub mod DeskViews
+pub mod Keeping
+pub mod Sessions
+pub mod Reading
+pub mod Memory
+pub mod Answers
+pub mod Frames
+pub mod OwnWindows
+pub mod Grabs
+pub mod Readings
+pub mod Serving
+pub mod Stepping
+pub mod Drafts
