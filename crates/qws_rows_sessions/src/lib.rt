@@ -1,0 +1,7 @@
+//! Worked rows of sessions on threads, as tests.
+#![tactic(auto)]
+
+#[cfg(test)]
+mod gate_rows;
+#[cfg(test)]
+mod session_rows;
