@@ -110,8 +110,8 @@ pub fn session(
     Ok((screen, head, words, first, second))
 }
 
-// The cursor that the words have.
-fn cursor_in(alloc: Global, size: Size, words: &[u64]) -> Result<Cursor, OutOfMemory>
+/// The cursor that the words have.
+pub fn cursor_in(alloc: Global, size: Size, words: &[u64]) -> Result<Cursor, OutOfMemory>
     requires long { length words.now ≡ 10632 }
     requires cursor { IsCursorIn size words.now }
     ensures cursor { IfOk result (λ cursor. cursor ≡ (table_of words.now).cursor) }
@@ -195,8 +195,8 @@ fn close(turn: ServerTurn, before: &[u64], words: &[u64], entry: &JournalEntry)
     turn.end(entry);
 }
 
-// Lifts the cursor, writes the words, and puts their cursor down.
-fn prepare(turn: &mut ServerTurn, before: &[u64], words: &[u64], cursor: &Cursor, number: u64)
+/// Lifts the cursor, writes the words, and puts their cursor down.
+pub fn prepare(turn: &mut ServerTurn, before: &[u64], words: &[u64], cursor: &Cursor, number: u64)
     requires open { IsOpenServer turn.old }
     requires fresh { IsFresh turn.old.screen.now number before.now turn.old.head.now }
     requires long { length words.now ≡ 10632 }
@@ -212,8 +212,8 @@ fn prepare(turn: &mut ServerTurn, before: &[u64], words: &[u64], cursor: &Cursor
     drop_at(turn, cursor);
 }
 
-// Ends a turn that has written its table, with a refused entry.
-fn finish(turn: ServerTurn, before: &[u64], words: &[u64], number: u64)
+/// Ends a turn that has written its table, with a refused entry.
+pub fn finish(turn: ServerTurn, before: &[u64], words: &[u64], number: u64)
     requires open { IsOpenServer turn }
     requires served { IsServed turn.screen.now number before.now words.now turn.head.now }
     requires table { IsTable turn.screen.now.setting.size 3 number words.now }
