@@ -1,8 +1,7 @@
-pub mod Named
-pub mod Front
-pub mod Comments
-pub mod Turns
-pub mod Revisions
-pub mod Placed
-pub mod Calls
-pub mod Finishing
+pub mod EndLemmas
+pub mod LoadRanges
+pub mod FormEnds
+pub mod Told
+pub mod Clauses
+pub mod Says
+pub mod Shown

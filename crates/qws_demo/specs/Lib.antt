@@ -1,6 +1,5 @@
-pub mod Texts
-pub mod Lines
-pub mod Runs
-pub mod Files
+pub mod Due
+pub mod Ends
 pub mod Headline
-pub mod Steps
+pub mod Kept
+pub mod Statuses

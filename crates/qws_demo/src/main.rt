@@ -1,14 +1,12 @@
 //! The program: a session script becomes a picture with the session's history in its comments.
 #![tactic(auto)]
 
-mod answers;
-mod callers;
+mod ends;
+mod forms;
+mod loads;
 mod program;
-mod runs;
-mod steps;
 #[cfg(test)]
 mod tests;
-mod texts;
 
 use program::top;
 use qws_base::{NoGate, StdSink, StdSource};
@@ -36,5 +34,15 @@ fn main(rt: HostRuntime) -> ExitCode {
     let words = words_of(&rt, alloc);
     let mut source = StdSource::new(rt.reader());
     let mut sink = StdSink::new(io::writer(&rt));
-    ExitCode::from(top(&rt, alloc, &words, &mut source, &mut sink, &NoGate))
+    let mut kept = None;
+    let status = top(
+        &rt,
+        alloc,
+        &words,
+        &mut source,
+        &mut sink,
+        &NoGate,
+        &mut kept,
+    );
+    ExitCode::from(status)
 }

@@ -1,7 +1,0 @@
-use Rattle.std.proofs.Common.{◌≡◌, ◌++◌, take}
-use Rattle.std.specs.List.{flat_map}
-use Rattle.qws_demo.specs.Texts.{colour_bytes}
-use Rattle.qws_demo.proofs.texts.push_raster.Given as goal
-
-abbrev pub invariant-loop-c : goal.invariant-loop-c
-invariant-loop-c l = l.out.items ≡ l.fn.out.items ++ flat_map colour_bytes (take l.c-index l.shown)
