@@ -1,5 +1,5 @@
 -- Bits of glyphs side by side, and the loop that writes them.
-use Rattle.std.proofs.Common.{ℕ, ◌≡◌, ◌+◌, ◌-◌, ◌<◌, ◌≤◌, ℤ, pos, negsuc, ◌<ℤ◌, min, ltb, List, [], ◌∷◌, length, map, drop, get_or, slice_index, Bool, true, false, cond, ◌⊎◌, inl, inr, refl, sym, ap, ◌∙◌, arith, drop-cons, add-one, suc}
+use Rattle.std.proofs.Common.{ℕ, ◌≡◌, ◌+◌, ◌-◌, ◌<◌, ◌≤◌, ℤ, pos, negsuc, ◌<ℤ◌, min, ltb, List, [], ◌∷◌, length, drop, get_or, slice_index, Bool, true, false, cond, ◌⊎◌, inl, inr, refl, sym, ap, ◌∙◌, arith, drop-cons, add-one, suc}
 use Rattle.std.proofs.lemmas.Bool.{cases_lt}
 use Rattle.std.proofs.lemmas.Bool.Decides.{nat_tests}
 use Rattle.std.proofs.lemmas.List.FromFn.{fill_by_all, length-map-range_with_len, get_or-map-range_with_len}
@@ -85,8 +85,8 @@ front_end ink all v first column at n out made f l d = fill_by_all (λ k. bit_in
   by k h (inr b) = ap (λ t. cond t Skip (get_or out k Skip)) (run_inside at (length out) k b (omega arith)) ∙ ap (bit_ink ink) (sym (f.left k b (omega arith)))
 
 -- the first of the items that are left
-pub next_rest : {X Y : Type 0} (f : X → Y) (xs : List X) (i : ℕ) (x : X) → i < length xs → x ≡ get_or xs i x → map f (drop i xs) ≡ f x ∷ map f (drop (i + 1) xs)
-next_rest f xs i x h e = ap (map f) (drop-cons xs i x h) ∙ ap (λ v. f v ∷ map f (drop (suc i) xs)) (sym e) ∙ ap (λ j. f x ∷ map f (drop j xs)) (sym (add-one i))
+pub next_rest : {X : Type 0} (xs : List X) (i : ℕ) (x : X) → i < length xs → x ≡ get_or xs i x → drop i xs ≡ x ∷ drop (i + 1) xs
+next_rest xs i x h e = drop-cons xs i x h ∙ ap (λ v. v ∷ drop (suc i) xs) (sym e) ∙ ap (λ j. x ∷ drop j xs) (sym (add-one i))
 
 -- ---- columns before the first
 

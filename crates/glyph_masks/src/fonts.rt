@@ -1,5 +1,5 @@
 //! Fonts: glyphs of one height, found by their codes.
-ghost use Rattle.std.specs.Prelude.{◌≡◌, ◌<◌, ◌≤◌, ◌++◌, ◌∷◌, [], ◌↔◌, ◌⊎◌, ◌^◌, false, length, IsTrue, OnOk, OnErr, IfOk, IfErr, map, option_map};
+ghost use Rattle.std.specs.Prelude.{◌≡◌, ◌<◌, ◌≤◌, ◌++◌, ◌∷◌, [], ◌↔◌, ◌⊎◌, ◌^◌, false, length, IsTrue, OnOk, OnErr, IfOk, IfErr, is_ok, if◌then◌else◌};
 ghost use Rattle.std.specs.List.{All};
 ghost use Rattle.glyph_masks.specs.Glyphs.{IsGlyph, has_code, glyph_of};
 ghost use Rattle.glyph_masks.specs.Texts.{first_missing, spelled};
@@ -20,24 +20,24 @@ pub enum GlyphStop {
 
 /// A mask of bits by rows from the top. The leftmost column is the bit `width - 1`.
 #[derive(Debug, Drop)]
-pub(crate) struct Glyph {
+pub(crate) struct Glyph<'a> {
     code: u32,
     width: u32,
-    rows: Vec<u32>,
+    rows: &'a [u32],
 }
 
-impl Model for Glyph {
+impl<'a> Model for Glyph<'a> {
     ghost use Rattle.glyph_masks.specs.Glyphs.{GlyphView, IsGlyph};
     ghost use Rattle.std.specs.Prelude.{length};
 
     ghost Value = { GlyphView };
 
-    ghost view = { λ g. record { code = g.code; width = g.width; rows = g.rows.items } };
+    ghost view = { λ g. record { code = g.code; width = g.width; rows = g.rows.now } };
 
-    ghost invariant = { λ g. IsGlyph (length g.rows.items) g.width g.rows.items };
+    ghost invariant = { λ g. IsGlyph (length g.rows.now) g.width g.rows.now };
 }
 
-impl Glyph {
+impl<'a> Glyph<'a> {
     /// The number of columns.
     pub(crate) fn width(&self) -> u32
         ensures value { result ≡ self.now.width }
@@ -51,7 +51,7 @@ impl Glyph {
         ensures value { result.now ≡ self.now.rows }
         ensures is_glyph { IsGlyph (length self.now.rows) self.now.width self.now.rows }
     {
-        self.rows.as_slice()
+        self.rows
     }
 }
 
@@ -65,27 +65,35 @@ fn is_glyph(height: u32, width: u32, rows: &[u32]) -> bool
         && rows.iter().all(|row| u64::from(*row) < 1 << width)
 }
 
+// Appends the rows of a glyph. Where room is missing, a quarter more of it is taken, so that little is left unused.
+fn append(all: &mut Vec<u32>, rows: &[u32]) -> Result<(), AllocError>
+    ensures { all.new.items ≡ (if is_ok result then all.old.items ++ rows.now else all.old.items) }
+{
+    let len = all.len();
+    if all.capacity() - len < rows.len() {
+        all.reserve_exact(rows.len().max(len / 4))?;
+    }
+    all.extend_from_slice(rows)
+}
+
 /// Glyphs of one height, each with a code of its own, by which it is found without going through the others. Contracts see
 /// the height and the glyphs in the order in which they were added.
 #[derive(Debug, Drop)]
 pub struct Font {
-    alloc: Global,
     height: u32,
-    glyphs: IndexMap<u32, Glyph>,
+    widths: IndexMap<u32, u32>,
+    rows: Vec<u32>,
 }
 
 impl Model for Font {
-    ghost use Rattle.std.specs.Prelude.{◌≡◌, ◌<◌, ◌≤◌, length};
-    ghost use Rattle.std.specs.List.{All};
-    ghost use Rattle.indexmap.specs.IndexMap.{values};
     ghost use Rattle.glyph_masks.specs.Glyphs.{FontView};
-    ghost use Rattle.glyph_masks.specs.Places.{AreFound};
+    ghost use Rattle.glyph_masks.specs.Places.{placed, ArePlaced};
 
     ghost Value = { FontView };
 
-    ghost view = { λ f. record { height = f.height; glyphs = values f.glyphs } };
+    ghost view = { λ f. record { height = f.height; glyphs = placed f.height f.widths.entries f.rows.items } };
 
-    ghost invariant = { λ f. (0 < f.height) × (f.height ≤ 32) × All (λ g. length g.rows ≡ f.height) (values f.glyphs) × AreFound f.glyphs.entries };
+    ghost invariant = { λ f. ArePlaced f.height f.widths.entries f.rows.items };
 }
 
 impl Font {
@@ -96,9 +104,9 @@ impl Font {
         ensures { result ≡ record { height = height; glyphs = [] } }
     {
         Font {
-            alloc,
             height,
-            glyphs: IndexMap::new(alloc),
+            widths: IndexMap::new(alloc),
+            rows: Vec::new(alloc),
         }
     }
 
@@ -116,14 +124,21 @@ impl Font {
     pub fn has(&self, code: u32) -> bool
         ensures { result ≡ has_code self.now code }
     {
-        self.glyphs.contains_key(&code)
+        self.widths.contains_key(&code)
     }
 
     // The glyph of a code.
-    fn glyph(&self, code: u32) -> Option<&Glyph>
-        ensures found { option_map (λ g. g.now) result ≡ glyph_of self.now code }
+    fn glyph(&self, code: u32) -> Option<Glyph<'_>>
+        ensures { result ≡ glyph_of self.now code }
     {
-        self.glyphs.get(&code)
+        let (index, _, width) = self.widths.get_full(&code)?;
+        let height = self.height as usize;
+        let start = index * height;
+        Some(Glyph {
+            code,
+            width: *width,
+            rows: &self.rows[start..start + height],
+        })
     }
 
     /// The first code of which the font has no glyph.
@@ -134,8 +149,8 @@ impl Font {
     }
 
     /// The glyphs of codes.
-    pub(crate) fn spelled(&self, alloc: Global, codes: &[u32]) -> Result<Vec<&Glyph>, AllocError>
-        ensures { IfOk result (λ glyphs. map (λ g. g.now) glyphs.items ≡ spelled self.now codes.now) }
+    pub(crate) fn spelled(&self, alloc: Global, codes: &[u32]) -> Result<Vec<Glyph<'_>>, AllocError>
+        ensures { IfOk result (λ glyphs. glyphs.items ≡ spelled self.now codes.now) }
     {
         let mut glyphs = Vec::new(alloc);
         for code in codes {
@@ -163,12 +178,16 @@ impl Font {
         if self.has(code) {
             return Err(GlyphStop::Repeated { code });
         }
-        let Ok(rows) = rows.to_vec(self.alloc) else {
+        let kept = self.rows.len();
+        if append(&mut self.rows, rows).is_err() {
             return Err(GlyphStop::OutOfMemory);
-        };
-        match self.glyphs.insert(code, Glyph { code, width, rows }) {
+        }
+        match self.widths.insert(code, width) {
             Ok(_) => Ok(()),
-            Err(_) => Err(GlyphStop::OutOfMemory),
+            Err(_) => {
+                self.rows.truncate(kept);
+                Err(GlyphStop::OutOfMemory)
+            }
         }
     }
 }

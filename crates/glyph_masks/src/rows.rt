@@ -1,5 +1,5 @@
 //! Rows of glyphs as inks.
-ghost use Rattle.std.specs.Prelude.{◌≡◌, ◌+◌, ◌<◌, ◌≤◌, length, map};
+ghost use Rattle.std.specs.Prelude.{◌≡◌, ◌+◌, ◌<◌, ◌≤◌, length};
 ghost use Rattle.std.specs.List.{All};
 ghost use Rattle.glyph_masks.specs.Texts.{column_bit};
 ghost use Rattle.glyph_masks.specs.Columns.{bit_ink, glyph_inks, text_inks};
@@ -33,9 +33,9 @@ fn glyph_inks(ink: &Ink, width: u32, row: u32, first: u32, out: &mut [Ink])
 }
 
 /// The inks of columns of a row of glyphs side by side, from one of them on.
-pub(crate) fn text_inks(ink: &Ink, glyphs: &[&Glyph], row: usize, first: usize, out: &mut [Ink])
-    requires { All (λ g. row < length g.now.rows) glyphs.now }
-    ensures { out.new ≡ text_inks ink.now (map (λ g. g.now) glyphs.now) row first (length out.old) }
+pub(crate) fn text_inks(ink: &Ink, glyphs: &[Glyph<'_>], row: usize, first: usize, out: &mut [Ink])
+    requires { All (λ g. row < length g.rows) glyphs.now }
+    ensures { out.new ≡ text_inks ink.now glyphs.now row first (length out.old) }
 {
     let mut at = 0;
     let mut column = first;

@@ -1,5 +1,5 @@
 //! Texts: glyphs of a font side by side.
-ghost use Rattle.std.specs.Prelude.{◌≡◌, ◌≤◌, ◌↔◌, ℕ, Some, length, map, IsTrue, IfOk};
+ghost use Rattle.std.specs.Prelude.{◌≡◌, ◌≤◌, ◌↔◌, ℕ, Some, length, IsTrue, IfOk};
 ghost use Rattle.qws_base.specs.Points.{IsPlaced, holds};
 ghost use Rattle.glyph_masks.specs.Texts.{first_missing, spelled, width_of, IsInOneCell, any_set, cells, text_rect};
 
@@ -19,9 +19,9 @@ pub enum RunStop {
 }
 
 // How many columns glyphs take.
-fn width_of(glyphs: &[&Glyph]) -> u32
+fn width_of(glyphs: &[Glyph<'_>]) -> u32
     requires { length glyphs.now ≤ 256 }
-    ensures { result ≡ width_of (map (λ g. g.now) glyphs.now) }
+    ensures { result ≡ width_of glyphs.now }
 {
     let mut width = 0;
     for glyph in glyphs {
@@ -38,18 +38,17 @@ pub struct TextRun<'a> {
     ink: Ink,
     height: u32,
     width: u32,
-    glyphs: Vec<&'a Glyph>,
+    glyphs: Vec<Glyph<'a>>,
 }
 
 impl<'a> Model for TextRun<'a> {
-    ghost use Rattle.std.specs.Prelude.{map, List};
     ghost use Rattle.glyph_masks.specs.Texts.{TextView, IsText};
 
     ghost Value = { TextView };
 
-    ghost view = { λ t. record { at = t.at; ink = t.ink; height = t.height; glyphs = map (λ g. g.now) t.glyphs.items } };
+    ghost view = { λ t. record { at = t.at; ink = t.ink; height = t.height; glyphs = t.glyphs.items } };
 
-    ghost invariant = { λ t. IsText t.at t.height t.width (map (λ g. g.now) t.glyphs.items) };
+    ghost invariant = { λ t. IsText t.at t.height t.width (t.glyphs.items) };
 }
 
 impl<'a> TextRun<'a> {

@@ -1,4 +1,4 @@
-use Rattle.std.proofs.Common.{◌≡◌, ◌+◌, ◌-◌, ℕ, List, [], ◌∷◌, Bor, min, length, map, take, drop, slice_index, ap, ◌∙◌, subst, arith, length-take, length-drop}
+use Rattle.std.proofs.Common.{◌≡◌, ◌+◌, ◌-◌, ℕ, List, [], ◌∷◌, min, length, take, drop, slice_index, ap, ◌∙◌, subst, arith, length-take, length-drop}
 use Rattle.glyph_masks.specs.Columns.{glyph_inks}
 use Rattle.std.proofs.lemmas.List.{drop_all}
 use Rattle.glyph_masks.specs.Glyphs.{GlyphView}
@@ -6,30 +6,27 @@ use Rattle.glyph_masks.proofs.BitLemmas.{Front, front_none, front_past, front_mo
 use Rattle.glyph_masks.proofs.rows.text_inks.Goals as goal
 use Rattle.glyph_masks.proofs.rows.text_inks.Goals.{then-column-width, else-column-width}
 
-abbrev seen : Bor GlyphView → GlyphView
-seen g = g.now
-
 pub loop-glyph-init : goal.loop-glyph-init
-loop-glyph-init c = front_none c.args.ink.now (map seen c.args.glyphs.now) c.args.row c.args.first c.args.out.now
+loop-glyph-init c = front_none c.args.ink.now c.args.glyphs.now c.args.row c.args.first c.args.out.now
 
 pub returns-then-at-out : goal.returns-then-at-out
 returns-then-at-out c =
-    front_full c.args.ink.now (map seen c.args.glyphs.now) (map seen (drop c.loop-glyph.glyph-index c.args.glyphs.now)) c.args.row c.args.first c.loop-glyph.column c.loop-glyph.at (length c.args.out.now) c.loop-glyph.out
+    front_full c.args.ink.now c.args.glyphs.now (drop c.loop-glyph.glyph-index c.args.glyphs.now) c.args.row c.args.first c.loop-glyph.column c.loop-glyph.at (length c.args.out.now) c.loop-glyph.out
     c.loop-glyph.invariant c.if-at-out.true (omega arith)
 
 pub loop-glyph-preserved : goal.loop-glyph-preserved
 loop-glyph-preserved c =
-    let all : List GlyphView = map seen c.args.glyphs.now in
-    let after : List GlyphView = map seen (drop (c.loop-glyph.glyph-index + 1) c.args.glyphs.now) in
-    let before : Front c.args.ink.now all (c.glyph-item.result.now ∷ after) c.args.row c.args.first c.loop-glyph.column c.loop-glyph.at c.loop-glyph.out =
+    let all : List GlyphView = c.args.glyphs.now in
+    let after : List GlyphView = drop (c.loop-glyph.glyph-index + 1) c.args.glyphs.now in
+    let before : Front c.args.ink.now all (c.glyph-item.result ∷ after) c.args.row c.args.first c.loop-glyph.column c.loop-glyph.at c.loop-glyph.out =
     subst (λ l. Front c.args.ink.now all l c.args.row c.args.first c.loop-glyph.column c.loop-glyph.at c.loop-glyph.out)
-    (next_rest seen c.args.glyphs.now c.loop-glyph.glyph-index c.glyph-item.result c.loop-glyph-test.true c.glyph-item.is) c.loop-glyph.invariant in
+    (next_rest c.args.glyphs.now c.loop-glyph.glyph-index c.glyph-item.result c.loop-glyph-test.true c.glyph-item.is) c.loop-glyph.invariant in
     elim c.if-column-width.branch [
       | then-column-width w ↦
           rw (w.out-is, w.at-is, w.column-is, c.width-width.ensures.value)
-          (front_past c.args.ink.now all c.glyph-item.result.now after c.args.row c.args.first c.loop-glyph.column c.loop-glyph.at c.loop-glyph.out before (omega arith))
+          (front_past c.args.ink.now all c.glyph-item.result after c.args.row c.args.first c.loop-glyph.column c.loop-glyph.at c.loop-glyph.out before (omega arith))
       | else-column-width w ↦
-          let g : GlyphView = c.glyph-item.result.now in
+          let g : GlyphView = c.glyph-item.result in
           let n : ℕ = length (take (w.min-end.result - c.loop-glyph.at) (drop c.loop-glyph.at c.loop-glyph.out)) in
           let end : w.min-end.result ≡ min (length c.loop-glyph.out) (c.loop-glyph.at + (g.width - c.loop-glyph.column)) =
           w.min-end.ensures ∙ ap (λ m. min (length c.loop-glyph.out) (c.loop-glyph.at + (m - c.loop-glyph.column))) c.width-width.ensures.value in
@@ -45,7 +42,7 @@ loop-glyph-preserved c =
 
 pub returns : goal.returns
 returns c =
-    let past : map seen (drop c.loop-glyph.glyph-index c.args.glyphs.now) ≡ [] = ap (map seen) (drop_all c.loop-glyph.glyph-index c.args.glyphs.now c.loop-glyph-test.false) in
-    front_end c.args.ink.now (map seen c.args.glyphs.now) c.args.row c.args.first c.loop-glyph.column c.loop-glyph.at (length c.args.out.now) c.loop-glyph.out c.lay.new.out
-    (subst (λ l. Front c.args.ink.now (map seen c.args.glyphs.now) l c.args.row c.args.first c.loop-glyph.column c.loop-glyph.at c.loop-glyph.out) past c.loop-glyph.invariant)
+    let past : drop c.loop-glyph.glyph-index c.args.glyphs.now ≡ [] = drop_all c.loop-glyph.glyph-index c.args.glyphs.now c.loop-glyph-test.false in
+    front_end c.args.ink.now c.args.glyphs.now c.args.row c.args.first c.loop-glyph.column c.loop-glyph.at (length c.args.out.now) c.loop-glyph.out c.lay.new.out
+    (subst (λ l. Front c.args.ink.now c.args.glyphs.now l c.args.row c.args.first c.loop-glyph.column c.loop-glyph.at c.loop-glyph.out) past c.loop-glyph.invariant)
     (omega arith) c.lay.ensures

@@ -1,6 +1,6 @@
-use Rattle.std.proofs.Common.{map, drop}
+use Rattle.std.proofs.Common.{drop}
 use Rattle.glyph_masks.proofs.BitLemmas.{Front}
 use Rattle.glyph_masks.proofs.rows.text_inks.Given as goal
 
 abbrev pub invariant-loop-glyph : goal.invariant-loop-glyph
-invariant-loop-glyph l = Front l.ink (map (λ g. g.now) l.glyphs) (map (λ g. g.now) (drop l.glyph-index l.glyphs)) l.row l.first l.column l.at l.out
+invariant-loop-glyph l = Front l.ink l.glyphs (drop l.glyph-index l.glyphs) l.row l.first l.column l.at l.out

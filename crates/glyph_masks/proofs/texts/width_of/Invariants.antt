@@ -1,9 +1,9 @@
-use Rattle.std.proofs.Common.{◌≡◌, ◌+◌, ◌*◌, ◌≤◌, map, drop}
+use Rattle.std.proofs.Common.{◌≡◌, ◌+◌, ◌*◌, ◌≤◌, drop}
 use Rattle.glyph_masks.specs.Texts.{width_of}
 use Rattle.glyph_masks.proofs.texts.width_of.Given as goal
 
 abbrev pub invariant-loop-glyph : goal.invariant-loop-glyph
 invariant-loop-glyph l = record {
   few : l.width ≤ 32 * l.glyph-index;
-  left : l.width + width_of (map (λ g. g.now) (drop l.glyph-index l.glyphs)) ≡ width_of (map (λ g. g.now) l.glyphs);
+  left : l.width + width_of (drop l.glyph-index l.glyphs) ≡ width_of l.glyphs;
 }
