@@ -10,9 +10,7 @@ ghost use Rattle.window_stack.specs.Stacks.{stack_of};
 ghost use Rattle.window_core.specs.Arrangements.{IsRequestOf, OthersAsk};
 
 use crate::requests::{no_request, request_of, with_request};
-use crate::windows::{
-    copy_window, new_window, put_behind, with_new_origin, with_new_region, without,
-};
+use crate::windows::{new_window, put_behind, with_new_origin, with_new_region, without};
 use band_regions::Region;
 use qws_base::{OutOfMemory, Point, Rects, Size, WindowView};
 use region_alloc::{
@@ -177,7 +175,7 @@ impl Arrangement {
         let mut stack = self.stack.copy(alloc)?;
         let _ = stack.raise(window.slot);
         let others = without(alloc, self.windows(), window.slot)?;
-        let copy = copy_window(alloc, window)?;
+        let copy = window.copy(alloc)?;
         let windows = put_behind(alloc, others, copy, window.layer + 1)?;
         let request = self.requests[window.slot as usize].copy(alloc)?;
         let after = self.rearranged(alloc, window.slot, windows, stack, request)?;
@@ -195,7 +193,7 @@ impl Arrangement {
         let mut stack = self.stack.copy(alloc)?;
         let _ = stack.lower(window.slot);
         let others = without(alloc, self.windows(), window.slot)?;
-        let copy = copy_window(alloc, window)?;
+        let copy = window.copy(alloc)?;
         let windows = put_behind(alloc, others, copy, window.layer)?;
         let request = self.requests[window.slot as usize].copy(alloc)?;
         let after = self.rearranged(alloc, window.slot, windows, stack, request)?;

@@ -46,19 +46,6 @@ pub fn new_window(alloc: Global, slot: u32, client: u32, layer: u32) -> WindowVi
     }
 }
 
-/// An equal window.
-pub fn copy_window(alloc: Global, window: &WindowView) -> Result<WindowView, OutOfMemory>
-    ensures { IfOk result (λ copy. copy ≡ window.now) }
-{
-    Ok(WindowView {
-        slot: window.slot,
-        owner: window.owner,
-        layer: window.layer,
-        origin: window.origin,
-        rects: window.rects.copy(alloc)?,
-    })
-}
-
 /// The windows without that of the slot.
 pub fn without(
     alloc: Global,
@@ -70,7 +57,7 @@ pub fn without(
     let mut others = Vec::new(alloc);
     for window in windows {
         if window.slot != slot {
-            others.push(copy_window(alloc, window)?)?;
+            others.push(window.copy(alloc)?)?;
         }
     }
     Ok(others)
@@ -111,7 +98,7 @@ pub fn with_new_region(
 {
     let mut all = Vec::new(alloc);
     for window in windows {
-        let mut copy = copy_window(alloc, window)?;
+        let mut copy = window.copy(alloc)?;
         if window.slot == slot {
             copy.origin = origin;
             copy.rects = rects.copy(alloc)?;
@@ -132,7 +119,7 @@ pub fn with_new_origin(
 {
     let mut all = Vec::new(alloc);
     for window in windows {
-        let mut copy = copy_window(alloc, window)?;
+        let mut copy = window.copy(alloc)?;
         if window.slot == slot {
             copy.origin = origin;
         }
