@@ -17,7 +17,8 @@ use Rattle.fb_words.specs.Steps.{looked_mode, item_mode}
 use Rattle.fb_words.specs.Looks.{AreOutsideRow, LooksLaw, GoingLaw}
 use Rattle.fb_words.proofs.Owned.{looked_stays, slot_stays}
 
-look_last : (looked : List Looked) (l : Looked) (x v : ℕ) → look_of (looked ++ l ∷ []) x ≡ Some v → (look_of looked x ≡ Some v) ⊎ (x ≡ l.word)
+-- a word looked up behind one more look is that look's, or was looked at before
+pub look_last : (looked : List Looked) (l : Looked) (x v : ℕ) → look_of (looked ++ l ∷ []) x ≡ Some v → (look_of looked x ≡ Some v) ⊎ (x ≡ l.word)
 look_last [] l x v e = go (l.word == x) refl e
   where
     go : (b : Bool) → (l.word == x) ≡ b → (if b then Some l.value else None) ≡ Some v → (let n : Option ℕ = None in n ≡ Some v) ⊎ (x ≡ l.word)
@@ -30,7 +31,7 @@ look_last (m ∷ looked) l x v e = go (m.word == x) e (look_last looked l x v)
     go true e r = inl e
     go false e r = r e
 
-found_at : (m : Mode) (i n x v : ℕ) → look_of (looked_in (looked_mode i n m)) x ≡ Some v → (look_of (looked_in m) x ≡ Some v) ⊎ (x ≡ i)
+pub found_at : (m : Mode) (i n x v : ℕ) → look_of (looked_in (looked_mode i n m)) x ≡ Some v → (look_of (looked_in m) x ≡ Some v) ⊎ (x ≡ i)
 found_at Idle i n x v e = inl e
 found_at Refused i n x v e = inl e
 found_at (Reading stamp slot looked log) i n x v e = look_last looked record { word = i; value = n } x v e

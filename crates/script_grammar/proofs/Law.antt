@@ -31,11 +31,11 @@ length-with_glyph [] glyph = refl
 length-with_glyph (font ∷ []) glyph = refl
 length-with_glyph (font ∷ next ∷ fonts) glyph = ap suc (length-with_glyph (next ∷ fonts) glyph)
 
-fonts_push : (fonts : List FontView) (before : List Asset) (asset : Asset) → fonts_from fonts (before ++ asset ∷ []) ≡ with_asset (fonts_from fonts before) asset
+pub fonts_push : (fonts : List FontView) (before : List Asset) (asset : Asset) → fonts_from fonts (before ++ asset ∷ []) ≡ with_asset (fonts_from fonts before) asset
 fonts_push fonts [] asset = refl
 fonts_push fonts (a ∷ before) asset = fonts_push (with_asset fonts a) before asset
 
-images_push : (before : List Asset) (asset : Asset) → images_of (before ++ asset ∷ []) ≡ images_of before ++ images_of (asset ∷ [])
+pub images_push : (before : List Asset) (asset : Asset) → images_of (before ++ asset ∷ []) ≡ images_of before ++ images_of (asset ∷ [])
 images_push [] asset = refl
 images_push (FontLine height ∷ before) asset = images_push before asset
 images_push (GlyphLine glyph ∷ before) asset = images_push before asset

@@ -166,21 +166,22 @@ groups_some : (k : ℕ) (c : ℕ) (w xs : List ℕ) → c ∷ w ≡ flat_map (he
 groups_some k c w [] e = absurd (let no : suc (length w) ≡ 0 = ap length e in omega arith)
 groups_some k c w (x ∷ xs) e = e
 
-bytes_step : (none : Bool) (w xs : List ℕ) → bytes_eq w (codes "-") ≡ none → cond none (Ok []) (filled w >>= pairs_read >>= at_most 65000) ≡ Ok xs → (w ≡ hex_groups 2 xs) × (All IsByte xs × (length xs ≤ 65000))
-bytes_step true w xs is e =
+-- at most so many groups of k digits, or a minus for none
+groups_printed : (k most : ℕ) (Is : ℕ → Type 0) (read : List ℕ → Result (List ℕ) Cause) → ((w xs : List ℕ) → read w ≡ Ok xs → (w ≡ flat_map (hex k) xs) × All Is xs) → (none : Bool) (w xs : List ℕ) → bytes_eq w (codes "-") ≡ none → cond none (Ok []) (filled w >>= read >>= at_most most) ≡ Ok xs → (w ≡ hex_groups k xs) × (All Is xs × (length xs ≤ most))
+groups_printed k most Is read printed true w xs is e =
     let same = ok_same [] xs e in
     let minus : w ≡ codes "-" = (bytes_eq-Decides w (codes "-")).0 is in
-    (minus ∙ ap (hex_groups 2) same, subst (λ (ys : List ℕ). All IsByte ys × (length ys ≤ 65000)) same (All-nil IsByte, omega arith))
-bytes_step false [] xs is e = err_is_no_ok Number xs e
-bytes_step false (c ∷ w) xs is e =
-    let read = bind_ok (pairs_read (c ∷ w)) (at_most 65000) xs e in
-    let few = few_printed 65000 read.0 xs read.2 in
-    let pairs = pairs_printed (c ∷ w) read.0 read.1 in
-    (groups_some 2 c w xs (pairs.0 ∙ ap (flat_map (hex 2)) few.0), (subst (All IsByte) few.0 pairs.1, few.1))
+    (minus ∙ ap (hex_groups k) same, subst (λ (ys : List ℕ). All Is ys × (length ys ≤ most)) same (All-nil Is, omega arith))
+groups_printed k most Is read printed false [] xs is e = err_is_no_ok Number xs e
+groups_printed k most Is read printed false (c ∷ w) xs is e =
+    let found = bind_ok (read (c ∷ w)) (at_most most) xs e in
+    let few = few_printed most found.0 xs found.2 in
+    let groups = printed (c ∷ w) found.0 found.1 in
+    (groups_some k c w xs (groups.0 ∙ ap (flat_map (hex k)) few.0), (subst (All Is) few.0 groups.1, few.1))
 
 pub bytes_spelling : IsSpelling bytes_read (hex_groups 2) (λ xs. All IsByte xs × (length xs ≤ 65000))
 unfolding bytes_read
-bytes_spelling = record { reads = bytes_reads; printed = λ w xs e. bytes_step (bytes_eq w (codes "-")) w xs refl e }
+bytes_spelling = record { reads = bytes_reads; printed = λ w xs e. groups_printed 2 65000 IsByte pairs_read pairs_printed (bytes_eq w (codes "-")) w xs refl e }
 
 cells_reads : (xs : List ℕ) → (All IsPixel xs × (length xs ≤ 16384)) → cells_read (hex_groups 8 xs) ≡ Ok xs
 unfolding cells_read
@@ -190,21 +191,9 @@ cells_reads (x ∷ xs) h =
     ∙ bind_is (eights_read (flat_map (hex 8) (x ∷ xs))) (at_most 16384) (x ∷ xs) (eights_reads (x ∷ xs) h.0)
     ∙ few_reads 16384 (x ∷ xs) h.1
 
-cells_step : (none : Bool) (w xs : List ℕ) → bytes_eq w (codes "-") ≡ none → cond none (Ok []) (filled w >>= eights_read >>= at_most 16384) ≡ Ok xs → (w ≡ hex_groups 8 xs) × (All IsPixel xs × (length xs ≤ 16384))
-cells_step true w xs is e =
-    let same = ok_same [] xs e in
-    let minus : w ≡ codes "-" = (bytes_eq-Decides w (codes "-")).0 is in
-    (minus ∙ ap (hex_groups 8) same, subst (λ (ys : List ℕ). All IsPixel ys × (length ys ≤ 16384)) same (All-nil IsPixel, omega arith))
-cells_step false [] xs is e = err_is_no_ok Number xs e
-cells_step false (c ∷ w) xs is e =
-    let read = bind_ok (eights_read (c ∷ w)) (at_most 16384) xs e in
-    let few = few_printed 16384 read.0 xs read.2 in
-    let eights = eights_printed (c ∷ w) read.0 read.1 in
-    (groups_some 8 c w xs (eights.0 ∙ ap (flat_map (hex 8)) few.0), (subst (All IsPixel) few.0 eights.1, few.1))
-
 pub cells_spelling : IsSpelling cells_read (hex_groups 8) (λ xs. All IsPixel xs × (length xs ≤ 16384))
 unfolding cells_read
-cells_spelling = record { reads = cells_reads; printed = λ w xs e. cells_step (bytes_eq w (codes "-")) w xs refl e }
+cells_spelling = record { reads = cells_reads; printed = λ w xs e. groups_printed 8 16384 IsPixel eights_read eights_printed (bytes_eq w (codes "-")) w xs refl e }
 
 -- pixels: one at least
 pub record IsPixels (xs : List ℕ) : Type 0 where

@@ -1,5 +1,4 @@
 -- Where bytes are cut, and where the lines of calls begin.
-pub mod Seams
 pub mod Counts
 pub mod Begins
 pub mod Behind

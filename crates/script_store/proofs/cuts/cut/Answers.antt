@@ -1,7 +1,7 @@
 use Rattle.std.proofs.Common.{◌==◌, ◌∷◌, ◌+◌, ap, ◌∙◌, sym, arith, length, take, length-take}
 use Rattle.std.specs.List.{slice_split}
 use Rattle.std.proofs.lemmas.List.{length-drop}
-use Rattle.script_store.proofs.Seams.{cut_none, cut_some, cut_within, rest_of}
+use Rattle.line_words.proofs.Seams.{cut_none, cut_some, cut_within, rest_of}
 use Rattle.script_store.proofs.cuts.cut.Goals as goal
 
 pub returns-in-None : goal.returns-in-None
