@@ -138,7 +138,7 @@ keeping_law arranged = record {
 
 -- ---- turns, one list after the other
 
-abbrev state_by : Sides → State → List ClosedTurn → State
+abbrev pub state_by : Sides → State → List ClosedTurn → State
 state_by size state [] = state
 state_by size state (Served client command reply after log ∷ turns) = state_by size (step size state client command).0 turns
 state_by size state (Drawn client slot tag sheet reply log ∷ turns) = state_by size state turns
@@ -224,7 +224,7 @@ all_drawn setting tables e t (p ∷ cs) at ok = drawn_append setting (table_of t
 
 -- ---- the server's turns
 
-served_is : (tables : List (List ℕ)) (n : ℕ) (ts : List Closed) (k : ℕ) (t : Closed) → get_elem? ts k ≡ some t
+pub served_is : (tables : List (List ℕ)) (n : ℕ) (ts : List Closed) (k : ℕ) (t : Closed) → get_elem? ts k ≡ some t
     → nth_served tables n ts k ≡ Served t.client t.command t.reply (table_of (slice_index_or tables n [])) t.log ∷ []
 served_is tables n [] k t at = absurd (some-ne-none t (sym at))
 served_is tables n (u ∷ ts) zero t at = ap (λ (x : Closed). let l : List ClosedTurn = Served x.client x.command x.reply (table_of (slice_index_or tables n [])) x.log ∷ [] in l) (some-injective u t at)
@@ -233,18 +233,15 @@ served_is tables n (u ∷ ts) (suc k) t at = served_is tables n ts k t at
 -- ---- all turns
 
 module _ (s : Server) (cs : List Client) where
-  turns_at : ℕ → List ClosedTurn
-  turns_at e = served_at s e ++ flat_map (drawn_at e) cs
-
-  abbrev turns_upto : ℕ → List ClosedTurn
+  abbrev pub turns_upto : ℕ → List ClosedTurn
   turns_upto n = upto (λ e. served_at s e ++ flat_map (drawn_at e) cs) n
 
   -- the turns to number n are carried, and lead to its state and its table
-  record CarriedTo (n : ℕ) : Type 0 where
-    carried : AreCarried s.setting opening_state 0 first_table (turns_upto n)
-    state : state_by s.setting.size opening_state (turns_upto n) ≡ state_upto s.setting.size opening_state s.closed n
-    stamp : stamp_after 0 (turns_upto n) ≡ n
-    table : (t : List ℕ) → get_elem? s.tables n ≡ some t → table_after first_table (turns_upto n) ≡ table_of t
+  pub record CarriedTo (n : ℕ) : Type 0 where
+    pub carried : AreCarried s.setting opening_state 0 first_table (turns_upto n)
+    pub state : state_by s.setting.size opening_state (turns_upto n) ≡ state_upto s.setting.size opening_state s.closed n
+    pub stamp : stamp_after 0 (turns_upto n) ≡ n
+    pub table : (t : List ℕ) → get_elem? s.tables n ≡ some t → table_after first_table (turns_upto n) ≡ table_of t
 
   module _ (known : Knows s cs) (kept : AreKeptTurns s.setting.size s.closed s.tables)
       (own : (c : ℕ) (p : Client) → get_elem? cs c ≡ some p → (k : ℕ) (a : Call) → get_elem? p.own k ≡ some a → CallOk s.setting s.tables p.number a) where
@@ -255,7 +252,7 @@ module _ (s : Server) (cs : List Client) where
         let is = kept.each k turn u at next in
         record { answered = is.answered; left = is.left; carried = known.0.steps k turn v u at at_v next }
 
-    carried_to : (n : ℕ) → n ≤ length s.closed → CarriedTo n
+    pub carried_to : (n : ℕ) → n ≤ length s.closed → CarriedTo n
     carried_to zero le =
         let drawn : AllDrawn s.setting first_table (flat_map (drawn_at 0) cs) = subst (λ t. AllDrawn s.setting t (flat_map (drawn_at 0) cs)) opening_read (all_drawn s.setting s.tables 0 opening_table cs known.0.first own) in
         record {

@@ -30,10 +30,9 @@ use Rattle.fb_words.specs.Rule.{CallOk}
 use Rattle.fb_words.specs.Steps.{AllIdle, AllHere, Knows, arranged}
 use Rattle.fb_words.specs.Desks.{AreKeptTurns, history_of}
 use Rattle.fb_words.proofs.ByNumber.{drawn_at, served_at, turns_by, turns_are}
-use Rattle.fb_words.proofs.Desks.{arranged_idle, arranged_numbers}
+use Rattle.fb_words.proofs.Desks.{arranged_idle, arranged_numbers, turns_upto, carried_to, served_is}
 use Rattle.fb_words.proofs.Whole.{line_law}
 use Rattle.server_desk.specs.Grabs.{picks_from, step_count, GrabsAreShown}
-use Rattle.server_desk.proofs.Upto.{turns_upto, carried_to, served_is}
 
 -- ---- lists
 

@@ -8,5 +8,4 @@ pub mod Reading
 pub mod Wholes
 pub mod OwnWindows
 pub mod Grabbing
-pub mod Upto
 pub mod Grabbed

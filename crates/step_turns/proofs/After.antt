@@ -34,7 +34,7 @@ use Rattle.step_turns.specs.Changes.{state_planned}
 use Rattle.step_turns.specs.Written.{WritesTable}
 use Rattle.step_turns.proofs.Slots.{passing, passed, revision_more, as_before}
 use Rattle.step_turns.proofs.Later.{cursor_later, slots_later, revisions_later}
-use Rattle.step_turns.proofs.Owned.{owned_after}
+use Rattle.window_core.proofs.ServedLemmas.{owned_after}
 
 pub placed : (windows : List WindowView) → All IsWindow windows → All (λ w. IsPlaced w.origin) windows
 placed windows each = λ k d below. let near = near_origin (slice_index_or windows k d).origin (each k d below).placed in

@@ -1,5 +1,4 @@
 pub mod Slots
-pub mod Owned
 pub mod Later
 pub mod FirstWords
 pub mod After

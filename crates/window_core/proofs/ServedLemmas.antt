@@ -36,58 +36,59 @@ use Rattle.window_core.specs.CoreViews.{CoreView, PlanView, Belongs, IsCursorOn,
 
 -- ---- owners
 
--- the owner is a client
-abbrev pub IsOwned : WindowView → Type 0
-IsOwned w = w.owner < 16
+module _ (few : ℕ) where
+  -- the owner is one of the first clients
+  abbrev pub IsOwned : WindowView → Type 0
+  IsOwned w = w.owner < few
 
-front_owned : (new : WindowView) (ws : List WindowView) → IsOwned new → All IsOwned ws → All IsOwned (with_front new ws)
-front_owned new ws own h =
-    All-append IsOwned (filter (is_above new.layer) ws) (new ∷ filter (λ w. not (is_above new.layer w)) ws)
-    (All-filter (is_above new.layer) IsOwned ws h)
-    (All-cons IsOwned new (filter (λ w. not (is_above new.layer w)) ws) own (All-filter (λ w. not (is_above new.layer w)) IsOwned ws h))
+  front_owned : (new : WindowView) (ws : List WindowView) → IsOwned new → All IsOwned ws → All IsOwned (with_front new ws)
+  front_owned new ws own h =
+      All-append IsOwned (filter (is_above new.layer) ws) (new ∷ filter (λ w. not (is_above new.layer w)) ws)
+      (All-filter (is_above new.layer) IsOwned ws h)
+      (All-cons IsOwned new (filter (λ w. not (is_above new.layer w)) ws) own (All-filter (λ w. not (is_above new.layer w)) IsOwned ws h))
 
-back_owned : (new : WindowView) (ws : List WindowView) → IsOwned new → All IsOwned ws → All IsOwned (with_back new ws)
-back_owned new ws own h =
-    All-append IsOwned (filter (λ w. not (is_below new.layer w)) ws) (new ∷ filter (is_below new.layer) ws)
-    (All-filter (λ w. not (is_below new.layer w)) IsOwned ws h)
-    (All-cons IsOwned new (filter (is_below new.layer) ws) own (All-filter (is_below new.layer) IsOwned ws h))
+  back_owned : (new : WindowView) (ws : List WindowView) → IsOwned new → All IsOwned ws → All IsOwned (with_back new ws)
+  back_owned new ws own h =
+      All-append IsOwned (filter (λ w. not (is_below new.layer w)) ws) (new ∷ filter (is_below new.layer) ws)
+      (All-filter (λ w. not (is_below new.layer w)) IsOwned ws h)
+      (All-cons IsOwned new (filter (is_below new.layer) ws) own (All-filter (is_below new.layer) IsOwned ws h))
 
-without_owned : (slot : ℕ) (ws : List WindowView) → All IsOwned ws → All IsOwned (windows_without slot ws)
-without_owned slot ws h = All-filter (λ w. not (has_slot slot w)) IsOwned ws h
+  without_owned : (slot : ℕ) (ws : List WindowView) → All IsOwned ws → All IsOwned (windows_without slot ws)
+  without_owned slot ws h = All-filter (λ w. not (has_slot slot w)) IsOwned ws h
 
-created_owned : (client layer : ℕ) (slot : Option ℕ) (ws : List WindowView) → client < 16 → All IsOwned ws → All IsOwned (option_map_or (λ s. with_front (new_window s client layer) ws) slot ws)
-created_owned client layer None ws low h = h
-created_owned client layer (Some slot) ws low h = front_owned (new_window slot client layer) ws low h
+  created_owned : (client layer : ℕ) (slot : Option ℕ) (ws : List WindowView) → client < few → All IsOwned ws → All IsOwned (option_map_or (λ s. with_front (new_window s client layer) ws) slot ws)
+  created_owned client layer None ws low h = h
+  created_owned client layer (Some slot) ws low h = front_owned (new_window slot client layer) ws low h
 
-raised_owned : (slot : ℕ) (v : Option WindowView) (ws : List WindowView) → find (has_slot slot) ws ≡ v → All IsOwned ws → All IsOwned (option_map_or (λ w. with_front w (windows_without slot ws)) v ws)
-raised_owned slot None ws e h = h
-raised_owned slot (Some v) ws e h = front_owned v (windows_without slot ws) (found_member IsOwned (has_slot slot) ws v h e).0 (without_owned slot ws h)
+  raised_owned : (slot : ℕ) (v : Option WindowView) (ws : List WindowView) → find (has_slot slot) ws ≡ v → All IsOwned ws → All IsOwned (option_map_or (λ w. with_front w (windows_without slot ws)) v ws)
+  raised_owned slot None ws e h = h
+  raised_owned slot (Some v) ws e h = front_owned v (windows_without slot ws) (found_member IsOwned (has_slot slot) ws v h e).0 (without_owned slot ws h)
 
-lowered_owned : (slot : ℕ) (v : Option WindowView) (ws : List WindowView) → find (has_slot slot) ws ≡ v → All IsOwned ws → All IsOwned (option_map_or (λ w. with_back w (windows_without slot ws)) v ws)
-lowered_owned slot None ws e h = h
-lowered_owned slot (Some v) ws e h = back_owned v (windows_without slot ws) (found_member IsOwned (has_slot slot) ws v h e).0 (without_owned slot ws h)
+  lowered_owned : (slot : ℕ) (v : Option WindowView) (ws : List WindowView) → find (has_slot slot) ws ≡ v → All IsOwned ws → All IsOwned (option_map_or (λ w. with_back w (windows_without slot ws)) v ws)
+  lowered_owned slot None ws e h = h
+  lowered_owned slot (Some v) ws e h = back_owned v (windows_without slot ws) (found_member IsOwned (has_slot slot) ws v h e).0 (without_owned slot ws h)
 
-either_owned : (b : Bool) (v w : WindowView) → v.owner ≡ w.owner → IsOwned w → IsOwned (if b then v else w)
-either_owned true v w same own = subst (λ n. n < 16) (sym same) own
-either_owned false v w same own = own
+  either_owned : (b : Bool) (v w : WindowView) → v.owner ≡ w.owner → IsOwned w → IsOwned (if b then v else w)
+  either_owned true v w same own = subst (λ n. n < few) (sym same) own
+  either_owned false v w same own = own
 
-effect_owned : (state : State) (client : ℕ) (command : Command) → client < 16 → All IsOwned state.windows → All IsOwned (effect state client command).windows
-effect_owned state client (Create layer) low h = created_owned client layer (free_slot state.windows) state.windows low h
-effect_owned state client (Destroy slot) low h = without_owned slot state.windows h
-effect_owned state client (Region slot origin rects) low h =
-    each_map IsOwned IsOwned (with_region slot origin rects) (λ w own. either_owned (has_slot slot w) (record w { origin = origin; rects = rects }) w refl own) state.windows h
-effect_owned state client (Move slot origin) low h =
-    each_map IsOwned IsOwned (with_origin slot origin) (λ w own. either_owned (has_slot slot w) (record w { origin = origin }) w refl own) state.windows h
-effect_owned state client (Raise slot) low h = raised_owned slot (find (has_slot slot) state.windows) state.windows refl h
-effect_owned state client (Lower slot) low h = lowered_owned slot (find (has_slot slot) state.windows) state.windows refl h
-effect_owned state client (CursorShape w h cells) low own = own
-effect_owned state client (CursorMove x y) low h = h
-effect_owned state client (CursorShow shown) low h = h
-effect_owned state client (Join channel) low h = h
-effect_owned state client (Leave channel) low h = h
-effect_owned state client (Send channel message payload) low h = h
-effect_owned state client Take low h = h
-effect_owned state client (IsRegistered channel) low h = h
+  effect_owned : (state : State) (client : ℕ) (command : Command) → client < few → All IsOwned state.windows → All IsOwned (effect state client command).windows
+  effect_owned state client (Create layer) low h = created_owned client layer (free_slot state.windows) state.windows low h
+  effect_owned state client (Destroy slot) low h = without_owned slot state.windows h
+  effect_owned state client (Region slot origin rects) low h =
+      each_map IsOwned IsOwned (with_region slot origin rects) (λ w own. either_owned (has_slot slot w) (record w { origin = origin; rects = rects }) w refl own) state.windows h
+  effect_owned state client (Move slot origin) low h =
+      each_map IsOwned IsOwned (with_origin slot origin) (λ w own. either_owned (has_slot slot w) (record w { origin = origin }) w refl own) state.windows h
+  effect_owned state client (Raise slot) low h = raised_owned slot (find (has_slot slot) state.windows) state.windows refl h
+  effect_owned state client (Lower slot) low h = lowered_owned slot (find (has_slot slot) state.windows) state.windows refl h
+  effect_owned state client (CursorShape w h cells) low own = own
+  effect_owned state client (CursorMove x y) low h = h
+  effect_owned state client (CursorShow shown) low h = h
+  effect_owned state client (Join channel) low h = h
+  effect_owned state client (Leave channel) low h = h
+  effect_owned state client (Send channel message payload) low h = h
+  effect_owned state client Take low h = h
+  effect_owned state client (IsRegistered channel) low h = h
 
 -- ---- the cursor
 
@@ -151,9 +152,15 @@ slot_count : (f : ℕ → ℕ) → length (map f slots) ≡ 32
 unfolding slots
 slot_count f = length-map-range_with_len f 0 32
 
-made_owned : (state accepted : State) (refused : Bool) → All IsOwned accepted.windows → All IsOwned state.windows → All IsOwned (made state accepted refused).windows
-made_owned state accepted false h k = h
-made_owned state accepted true h k = k
+module _ (few : ℕ) where
+  made_owned : (state accepted : State) (refused : Bool) → All (IsOwned few) accepted.windows → All (IsOwned few) state.windows → All (IsOwned few) (made state accepted refused).windows
+  made_owned state accepted false h k = h
+  made_owned state accepted true h k = k
+
+  -- windows after a step of one of the first clients are theirs where they were
+  pub owned_after : (size : Sides) (state : State) (client : ℕ) (command : Command) → client < few → All (IsOwned few) state.windows → All (IsOwned few) (step size state client command).0.windows
+  owned_after size state client command low h =
+      made_owned state (completed size state (effect state client command)) (is_refused (answer size state client command)) (effect_owned few state client command low h) h
 
 made_cursor : (size : Sides) (state accepted : State) (refused : Bool) → (refused ≡ false → IsCursorOn size accepted.cursor) → IsCursorOn size state.cursor → IsCursorOn size (made state accepted refused).cursor
 made_cursor size state accepted false h k = h refl
@@ -169,7 +176,7 @@ served_stays size state client command low s =
     let accepted : State = completed size state (effect state client command) in
     record {
       windows = arranged_law.stays size state client command s.windows;
-      owners = made_owned state accepted refused (effect_owned state client command low s.owners) s.owners;
+      owners = owned_after 16 size state client command low s.owners;
       cursor = made_cursor size state accepted refused (λ e. effect_cursor size state client command e s.cursor) s.cursor;
       slots = made_count state accepted refused (slot_count (risen size state (effect state client command).windows)) s.slots;
       revisions = λ slot below. let before = s.revisions slot below in let more = revision_law.rises size state client command slot below in omega arith;
@@ -179,7 +186,7 @@ served_stays size state client command low s =
 same_served : (size other : Sides) (state after : State) → other ≡ size → after.windows ≡ state.windows → after.cursor ≡ state.cursor → after.revisions ≡ state.revisions → IsServed size state → IsServed other after
 same_served size other state after screen windows cursor revisions s = subst (λ n. IsServed n after) (sym screen) (record {
   windows = subst (IsArranged size) (sym windows) s.windows;
-  owners = subst (All IsOwned) (sym windows) s.owners;
+  owners = subst (All (IsOwned 16)) (sym windows) s.owners;
   cursor = subst (IsCursorOn size) (sym cursor) s.cursor;
   slots = subst (λ ns. length ns ≡ 32) (sym revisions) s.slots;
   revisions = λ slot below. subst (λ ns. 1 ≤ get_or ns slot 1) (sym revisions) (s.revisions slot below);
@@ -209,7 +216,7 @@ opening_count = length-map-range_with_len {X = ℕ} (λ slot. 1) 0 32
 served_opens : (size : Sides) → IsScreen size → IsServed size opening_state
 served_opens size screen = record {
   windows = arranged_law.opens size;
-  owners = All-nil IsOwned;
+  owners = All-nil (IsOwned 16);
   cursor = record { in_columns = screen.some_w; in_rows = screen.some_h; shape = record { sides = inr (refl, refl); cells = refl } };
   slots = opening_count;
   revisions = opening_revision;

@@ -13,7 +13,7 @@ carry-requires-clause-owners_after c =
     let after : Held = record c.self.inside.held { arrangement = parts.arrangement; cursor = parts.cursor; revisions = parts.revisions } in
     let served = planned_served c.args.self.now c.args.plan after parts c.into_parts-command.result.0 c.into_parts-command.ensures.parts c.requires c.into_parts-command.ensures.client
     (subst (λ (v : CoreView). IsServed v.size v.state) c.self.view_is c.self.invariant) refl refl refl in
-    subst (All IsOwned) (sym (c.windows-2.ensures ∙ ap (λ (a : ArrangementView). a.windows) c.deref-2.ensures)) served.owners
+    subst (All (IsOwned 16)) (sym (c.windows-2.ensures ∙ ap (λ (a : ArrangementView). a.windows) c.deref-2.ensures)) served.owners
 
 pub invariant_of-self : goal.invariant_of-self
 invariant_of-self c =
