@@ -3,6 +3,8 @@
 
 mod ends;
 mod forms;
+#[cfg(test)]
+mod gate_tests;
 mod loads;
 mod program;
 #[cfg(test)]

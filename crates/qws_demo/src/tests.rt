@@ -1,6 +1,7 @@
 //! Runs of the program over memory.
 use crate::program::{plain_top, top};
-use qws_base::{MemSink, MemSource, NoGate};
+use qws_base::{Gate, MemSink, MemSource, NoGate};
+use server_desk::Closed;
 use std::alloc::Global;
 use std::sync::Wait;
 use std::test::Fail;
@@ -42,29 +43,33 @@ fn words_of(alloc: Global, text: &str) -> Result<Vec<String>, Fail> {
     Ok(words)
 }
 
+/// The program with some words, over a source and a sink, whose clients are handed a gate.
+pub fn run_gated<R: Threads + Wait + Sync, G: Gate + Sync>(
+    rt: &R,
+    alloc: Global,
+    words: &str,
+    mut source: MemSource,
+    mut sink: MemSink,
+    gate: &G,
+) -> Result<(u8, MemSink, Option<Closed>), Fail> {
+    let words = words_of(alloc, words)?;
+    let mut kept = None;
+    let status = top(rt, alloc, &words, &mut source, &mut sink, gate, &mut kept);
+    Ok((status, sink, kept))
+}
+
 // The program with some words, over a source, into a sink that takes at most so many bytes a call and fails at the calls of
 // these numbers.
 fn run_with<R: Threads + Wait + Sync>(
     rt: &R,
     alloc: Global,
     words: &str,
-    mut source: MemSource,
+    source: MemSource,
     max_piece: usize,
     failing: Vec<u64>,
 ) -> Result<(u8, MemSink), Fail> {
-    let words = words_of(alloc, words)?;
-    let max_piece = max_piece.max(1);
-    let mut sink = MemSink::new(alloc, 1000, max_piece, failing)?;
-    let mut kept = None;
-    let status = top(
-        rt,
-        alloc,
-        &words,
-        &mut source,
-        &mut sink,
-        &NoGate,
-        &mut kept,
-    );
+    let sink = MemSink::new(alloc, 1000, max_piece.max(1), failing)?;
+    let (status, sink, _kept) = run_gated(rt, alloc, words, source, sink, &NoGate)?;
     Ok((status, sink))
 }
 

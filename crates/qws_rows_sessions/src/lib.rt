@@ -2,6 +2,4 @@
 #![tactic(auto)]
 
 #[cfg(test)]
-mod gate_rows;
-#[cfg(test)]
 mod session_rows;

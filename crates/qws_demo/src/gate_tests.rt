@@ -1,11 +1,42 @@
-//! Two clients that are held until both are in their turn.
-
-use qws_base::{Gate, Place};
-use session_run::run_session;
-use session_script::Script;
+//! Gates that the program hands to its clients: one that counts their calls, and one that holds two of them in their turns.
+use crate::tests::run_gated;
+use qws_base::{Gate, MemSink, MemSource, Place};
 use std::sync::atomic::{AtomicU64, Ordering};
 use std::test::Fail;
 use std::thread;
+
+// Counts the calls that were made.
+#[derive(Drop)]
+struct Counts {
+    calls: AtomicU64,
+}
+
+impl Gate for Counts {
+    fn at(&self, _client: u32, place: Place) {
+        match place {
+            Place::InTurn => {}
+            Place::AfterTurn => {
+                self.calls.fetch_add(1, Ordering::SeqCst);
+            }
+        }
+    }
+}
+
+#[test]
+fn a_trial_makes_each_call_once(rt: HostRuntime) -> Result<(), Fail> {
+    let alloc = rt.alloc();
+    let gate = Counts {
+        calls: AtomicU64::new(0),
+    };
+    let source = MemSource::new(Vec::new(alloc), 1, Vec::new(alloc));
+    let sink = MemSink::new(alloc, 1000, 1000, Vec::new(alloc))?;
+    let words = "trial --seed 7 --clients 4 --calls 200";
+    let (status, sink, _kept) = run_gated(&rt, alloc, words, source, sink, &gate)?;
+    assert_eq!(rt; status, 0);
+    assert_eq!(rt; sink.bytes(), b"clients 4 calls 800 holds\n".as_slice());
+    assert_eq!(rt; gate.calls.load(Ordering::SeqCst), 800);
+    Ok(())
+}
 
 // How often a client that is held looks whether the other has come.
 const LOOKS: u64 = 400_000_000;
@@ -68,7 +99,7 @@ impl Gate for Meets {
 
 #[test]
 fn two_clients_paint_at_the_same_time(rt: HostRuntime) -> Result<(), Fail> {
-    let script = Script::read(rt.alloc(), TWO_PAINTERS)?;
+    let alloc = rt.alloc();
     let gate = Meets {
         published: AtomicU64::new(0),
         in_turn: AtomicU64::new(0),
@@ -77,11 +108,20 @@ fn two_clients_paint_at_the_same_time(rt: HostRuntime) -> Result<(), Fail> {
         second: AtomicU64::new(0),
         ran_out: AtomicU64::new(0),
     };
-    let (bytes, closed) = run_session(&rt, rt.alloc(), &script, &gate)?;
+    let source = MemSource::new(TWO_PAINTERS.to_vec(alloc)?, 1000, Vec::new(alloc));
+    let sink = MemSink::new(alloc, 1000, 1000, Vec::new(alloc))?;
+    let (status, sink, kept) = run_gated(&rt, alloc, "run", source, sink, &gate)?;
+    assert_eq!(rt; status, 0);
     assert_eq!(rt; gate.ran_out.load(Ordering::SeqCst), 0);
     assert_eq!(rt; gate.in_turn.load(Ordering::SeqCst), 2);
     assert_eq!(rt; gate.calls.load(Ordering::SeqCst), 6);
+    let Some(closed) = kept else {
+        return Err(Fail::new("no session is kept"));
+    };
     assert_eq!(rt; closed.shown(), [0xff_0000, 0x00_ff00].as_slice());
-    assert!(rt; bytes.ends_with(b"2 1\n255\n\xff\x00\x00\x00\xff\x00"));
+    assert!(rt;
+        sink.bytes()
+            .ends_with(b"2 1\n255\n\xff\x00\x00\x00\xff\x00")
+    );
     Ok(())
 }
