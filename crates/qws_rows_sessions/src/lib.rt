@@ -2,4 +2,6 @@
 #![tactic(auto)]
 
 #[cfg(test)]
+mod client_rows;
+#[cfg(test)]
 mod session_rows;
