@@ -1,32 +1,9 @@
 -- Ascending lists of numbers.
-use Rattle.std.proofs.Common.{◌≡◌, ℕ, ◌+◌, ◌<◌, ◌≤◌, zero, suc, Bool, true, List, [], ◌∷◌, map, refl, sym, ap, ◌∙◌, ◌⊎◌, inl, inr, ⊎_elim, arith}
-use Rattle.std.specs.List.{AllByRecursion as Each, list_all, range_with_len}
-use Rattle.std.proofs.lemmas.Bool.{and_parts, and_from, cases_eq}
-use Rattle.band_regions.proofs.ListLemmas.{In, Pairs, each_in, each_weaker}
+use Rattle.band_regions.proofs.Words.{◌≡◌, ℕ, ◌+◌, ◌<◌, ◌≤◌, true, ◌⊎◌, List, [], ◌∷◌, refl, ap, ◌∙◌, inl, inr, arith, Bool, zero, suc, map, ⊎_elim, Each, list_all, range_with_len, and_parts, and_from, cases_eq}
+use Rattle.band_regions.proofs.ListLemmas.{Pairs, In, each_weaker}
 
 abbrev pub IsBelow : ℕ → ℕ → Type 0
 IsBelow a b = a < b
-
--- two ascending lists with the same members are one
-pub same_ascending : (xs ys : List ℕ) → Pairs IsBelow xs → Pairs IsBelow ys → ((n : ℕ) → In n xs → In n ys) → ((n : ℕ) → In n ys → In n xs) → xs ≡ ys
-same_ascending [] [] g k f h = refl
-same_ascending [] (y ∷ ys) g k f h = absurd (h y (inl refl))
-same_ascending (x ∷ xs) [] g k f h = absurd (f x (inl refl))
-same_ascending (x ∷ xs) (y ∷ ys) g k f h =
-    let e : x ≡ y = by_heads (f x (inl refl)) (h y (inl refl)) in
-    ap (λ z. z ∷ xs) e ∙ ap (λ zs. y ∷ zs) (same_ascending xs ys g.1 k.1 (others x y xs ys e g.0 f) (others y x ys xs (sym e) k.0 h))
-  where
-    others : (a b : ℕ) (ks ls : List ℕ) → a ≡ b → Each (IsBelow a) ks → ((n : ℕ) → In n (a ∷ ks) → In n (b ∷ ls)) → (n : ℕ) → In n ks → In n ls
-    others a b ks ls e above goes n m = not_first (goes n (inr m))
-      where
-        not_first : In n (b ∷ ls) → In n ls
-        not_first (inl same) = let l : a < n = each_in (IsBelow a) ks n above m in absurd (omega (arith, e, same))
-        not_first (inr k) = k
-
-    by_heads : In x (y ∷ ys) → In y (x ∷ xs) → x ≡ y
-    by_heads (inl e) n = e
-    by_heads (inr m) (inl e) = sym e
-    by_heads (inr m) (inr n) = let a : y < x = each_in (IsBelow y) ys x k.0 m in let b : x < y = each_in (IsBelow x) xs y g.0 n in absurd (omega (arith, a, b))
 
 -- ---- a range of numbers
 

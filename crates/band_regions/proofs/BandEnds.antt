@@ -1,22 +1,7 @@
 -- A list of bands that grows at its end: by a new band, or by rows of the last one.
-use Rattle.std.proofs.Common.{◌≡◌, ℕ, ◌+◌, ◌-◌, ◌<◌, ◌≤◌, Bool, true, false, ◌||◌, ◌&&◌, ◌⊎◌, List, [], ◌∷◌, ◌++◌, length, get_or, set, map, take, drop, refl, sym, ap, ◌∙◌, subst, inl, inr, arith, append_assoc}
-use Rattle.std.specs.Prelude.{ℤ, pos, negsuc, ◌+ℤ◌, ◌<ℤ◌, ◌≤ℤ◌}
-use Rattle.std.specs.List.{AllByRecursion as Each, filter}
-use Rattle.std.proofs.lemmas.Int.{ints, by_lt_z}
-use Rattle.std.proofs.lemmas.List.{take-append-drop, drop_more, take_at, drop_at, set_at, get_or_at, map_more, get_or-map, map-append, length-append, length-map, length-take-le, append-nil}
-use Rattle.std.proofs.lemmas.List.Elements.{All-from_recursion, recursion_from_All, filter-append}
-use Rattle.std.proofs.lemmas.List.Folds.{list_any-append}
-use Rattle.qws_base.specs.Points.{spans, holds, any_holds}
-use Rattle.qws_base.specs.Regions.{bottom, HasPixels, Precedes, span_of, starts_at, ends_at}
-use Rattle.qws_base.specs.declared.points.Point.{Point}
-use Rattle.qws_base.specs.declared.points.Rect.{Rect}
-use Rattle.band_regions.specs.Ranges.{IsInRange}
-use Rattle.band_regions.specs.Rows.{IsSpan, IsBand, IsLevel, IsLeftOf}
-use Rattle.band_regions.specs.Bands.{IsUnmerged, IsSweptTo, taller}
-use Rattle.band_regions.proofs.ListLemmas.{pairs_of, pairs_append, pairs_left, pairs_right, pairs_across, pairs_under, each_append, each_left, each_right, each_both, each_weaker, filter_none, filter_all, each_map, pairs_map, filter-map, nil_of_map}
+use Rattle.band_regions.proofs.Words.{◌≡◌, ℕ, ◌+◌, ◌-◌, ◌<◌, ◌≤◌, true, false, ◌||◌, ◌&&◌, ◌⊎◌, List, [], ◌∷◌, ◌++◌, length, get_or, take, drop, refl, sym, ap, ◌∙◌, subst, inl, inr, arith, Bool, map, append_assoc, set, ℤ, pos, ◌<ℤ◌, ◌≤ℤ◌, negsuc, ◌+ℤ◌, Each, filter, ints, by_lt_z, take-append-drop, drop_more, take_at, drop_at, append-nil, length-take-le, length-map, set_at, get_or_at, map_more, get_or-map, map-append, length-append, All-from_recursion, recursion_from_All, filter-append, list_any-append, spans, holds, any_holds, bottom, HasPixels, Precedes, span_of, starts_at, ends_at, Point, Rect, IsInRange, IsSpan, IsLeftOf, IsBand, IsLevel, IsSweptTo, IsUnmerged, taller, or_assoc, eq_test, not_eq_test}
 use Rattle.band_regions.proofs.BandLemmas.{IsStacked, stacked, banded}
-use Rattle.qws_base.proofs.Booleans.{or_assoc}
-use Rattle.qws_base.proofs.Integers.{eq_test, not_eq_test}
+use Rattle.band_regions.proofs.ListLemmas.{pairs_of, each_append, each_left, each_right, each_weaker, each_both, pairs_append, pairs_left, pairs_right, pairs_across, pairs_under, filter_none, filter_all, each_map, pairs_map, filter-map, nil_of_map}
 
 -- ---- equal spans, place by place
 

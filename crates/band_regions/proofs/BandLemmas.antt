@@ -1,21 +1,6 @@
 -- Bands seen from a row: their next end, what they have there, and what is left of them.
-use Rattle.std.proofs.Common.{◌≡◌, ℕ, ◌+◌, ◌-◌, ◌<◌, ◌≤◌, true, false, ◌||◌, ◌&&◌, ◌⊎◌, List, [], ◌∷◌, ◌++◌, length, get_or, take, drop, refl, sym, ap, ◌∙◌, subst, inl, inr, arith, to_z, of_z, w32}
-use Rattle.std.specs.Prelude.{ℤ, pos, ◌<ℤ◌, ◌≤ℤ◌}
-use Rattle.std.specs.List.{All, AllByRecursion as Each}
-use Rattle.std.proofs.lemmas.Int.{ints}
-use Rattle.std.proofs.lemmas.List.{take-append-drop, drop_more, drop-take}
-use Rattle.std.proofs.lemmas.List.Elements.{All-from_recursion, recursion_from_All, All-head}
-use Rattle.std.proofs.lemmas.List.Folds.{list_any-append}
-use Rattle.qws_base.specs.Points.{spans, holds, any_holds}
-use Rattle.qws_base.specs.Regions.{bottom, HasPixels, Precedes}
-use Rattle.qws_base.specs.declared.points.Point.{Point}
-use Rattle.qws_base.specs.declared.points.Rect.{Rect}
-use Rattle.band_regions.specs.Ranges.{IsInRange}
-use Rattle.band_regions.specs.Rows.{IsSpan, IsBandRow, IsLeftOf, has_column}
-use Rattle.band_regions.specs.Bands.{IsBanded, IsFirstLen, IsRestOfBands, EndsBelow, ReachesDown, in_row}
-use Rattle.qws_base.proofs.Booleans.{or_false, and_true, and_false}
-use Rattle.band_regions.proofs.ListLemmas.{Pairs, pairs_of, all_pairs_of, pairs_left, pairs_right, pairs_under, each_both, each_weaker, each_left, each_right, any_none, any_same}
-use Rattle.qws_base.proofs.Integers.{spans_not_before, spans_not_after, spans_from}
+use Rattle.band_regions.proofs.Words.{◌≡◌, ℕ, ◌+◌, ◌-◌, ◌<◌, ◌≤◌, true, false, ◌||◌, ◌&&◌, ◌⊎◌, List, [], ◌∷◌, ◌++◌, length, get_or, take, drop, refl, sym, ap, ◌∙◌, subst, inl, inr, arith, to_z, of_z, w32, ℤ, pos, ◌<ℤ◌, ◌≤ℤ◌, All, Each, ints, take-append-drop, drop_more, drop-take, All-from_recursion, recursion_from_All, All-head, list_any-append, spans, holds, any_holds, bottom, HasPixels, Precedes, Point, Rect, IsInRange, IsSpan, IsBandRow, IsLeftOf, has_column, IsBanded, IsFirstLen, IsRestOfBands, EndsBelow, ReachesDown, in_row, or_false, and_true, and_false, spans_not_before, spans_not_after, spans_from}
+use Rattle.band_regions.proofs.ListLemmas.{Pairs, pairs_of, all_pairs_of, each_left, each_right, each_weaker, each_both, pairs_left, pairs_right, pairs_under, any_none, any_same}
 
 -- the facts of bands by recursion
 pub record IsStacked (rects : List Rect) : Type 0 where

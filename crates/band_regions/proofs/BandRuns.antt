@@ -1,19 +1,7 @@
 -- The front of a list that is canonical as it stands: a band, span by span; bands, one by one.
-use Rattle.std.proofs.Common.{◌≡◌, ℕ, ◌+◌, ◌<◌, ◌≤◌, List, [], ◌∷◌, ◌++◌, length, get_or, map, take, drop, sym, ap, ◌∙◌, subst, arith}
-use Rattle.std.specs.Prelude.{ℤ, ◌≤ℤ◌}
-use Rattle.std.specs.List.{AllByRecursion as Each}
-use Rattle.std.proofs.lemmas.Int.{ints, by_lt_z}
-use Rattle.std.proofs.Math.Seq.{take-append-add}
-use Rattle.std.proofs.lemmas.List.{take-append-drop, take_more, get_or_default, length-take-le, drop_all}
-use Rattle.std.proofs.lemmas.List.Elements.{All-from_recursion}
-use Rattle.qws_base.specs.Regions.{right, bottom, span_of}
-use Rattle.qws_base.specs.declared.points.Rect.{Rect}
-use Rattle.band_regions.specs.Ranges.{IsInRange}
-use Rattle.band_regions.specs.Rows.{IsSpan, IsLevel, IsLeftOf}
-use Rattle.band_regions.specs.Bands.{IsSweptTo}
-use Rattle.band_regions.specs.Runs.{IsNext, IsBandRun}
-use Rattle.band_regions.proofs.ListLemmas.{Pairs, all_pairs_of, pairs_append, each_append, each_weaker}
+use Rattle.band_regions.proofs.Words.{◌≡◌, ℕ, ◌+◌, ◌<◌, ◌≤◌, List, [], ◌∷◌, ◌++◌, length, get_or, take, drop, sym, ap, ◌∙◌, subst, arith, map, ℤ, ◌≤ℤ◌, Each, ints, by_lt_z, take-append-drop, length-take-le, take_more, get_or_default, drop_all, All-from_recursion, bottom, right, span_of, Rect, IsInRange, IsSpan, IsLeftOf, IsLevel, IsSweptTo, take-append-add, IsNext, IsBandRun}
 use Rattle.band_regions.proofs.BandEnds.{same_lengths, swept_on, swept_more}
+use Rattle.band_regions.proofs.ListLemmas.{Pairs, all_pairs_of, each_append, each_weaker, pairs_append}
 
 -- the first rectangles are a band that ends at a column or before
 pub record IsRunTo (n : ℕ) (end : ℤ) (rects : List Rect) : Type 0 where

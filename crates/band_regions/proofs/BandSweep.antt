@@ -1,24 +1,7 @@
 -- The sweep over two lists of bands, row by row at which a band begins or ends.
-use Rattle.std.proofs.Common.{◌≡◌, ℕ, Bool, true, false, ◌||◌, ◌&&◌, nat_eq, List, [], ◌∷◌, ◌++◌, length, take, drop, refl, sym, ap, ◌∙◌, subst, arith}
-use Rattle.std.specs.Prelude.{ℤ, pos, negsuc, not, ◌+ℤ◌, ◌<ℤ◌, ◌≤ℤ◌}
-use Rattle.std.specs.List.{All, AllByRecursion as Each}
-use Rattle.std.proofs.lemmas.Int.{ints, by_lt_z}
-use Rattle.std.proofs.lemmas.List.{take-append-drop, take_at, drop_at}
-use Rattle.std.proofs.lemmas.List.Folds.{list_any-append}
-use Rattle.std.proofs.lemmas.List.Elements.{All-from_recursion, recursion_from_All, All-nil, All-head}
-use Rattle.qws_base.specs.Points.{spans, holds, any_holds}
-use Rattle.qws_base.specs.Regions.{bottom, HasPixels}
-use Rattle.qws_base.specs.declared.points.Point.{Point}
-use Rattle.qws_base.specs.declared.points.Rect.{Rect}
-use Rattle.band_regions.specs.declared.operations.Operation.{Operation}
-use Rattle.band_regions.specs.declared.operations.Operation.TheVariants.{Unite, Meet, Minus}
-use Rattle.band_regions.specs.Operations.{keeps}
-use Rattle.band_regions.specs.Ranges.{IsInRange, IsInForm}
-use Rattle.band_regions.specs.Rows.{IsBand, IsLevel, has_column}
-use Rattle.band_regions.specs.Bands.{IsBanded, IsRestOfBands, IsSweptTo, EndsBelow, ReachesDown, in_row}
-use Rattle.band_regions.proofs.ListLemmas.{any_none, any_same, each_weaker, each_both, each_append}
-use Rattle.qws_base.proofs.Integers.{spans_not_before, spans_not_after, spans_from}
+use Rattle.band_regions.proofs.Words.{◌≡◌, ℕ, true, false, ◌||◌, ◌&&◌, List, [], ◌∷◌, ◌++◌, length, take, drop, refl, sym, ap, ◌∙◌, subst, arith, Bool, nat_eq, not, ℤ, pos, ◌<ℤ◌, ◌≤ℤ◌, negsuc, ◌+ℤ◌, All, Each, ints, by_lt_z, take-append-drop, take_at, drop_at, All-from_recursion, recursion_from_All, All-head, All-nil, list_any-append, spans, holds, any_holds, bottom, HasPixels, Point, Rect, IsInRange, IsInForm, has_column, IsBand, IsLevel, IsBanded, IsRestOfBands, EndsBelow, ReachesDown, in_row, IsSweptTo, spans_not_before, spans_not_after, spans_from, Operation, Unite, Meet, Minus, keeps}
 use Rattle.band_regions.proofs.BandLemmas.{row_no, row_yes}
+use Rattle.band_regions.proofs.ListLemmas.{each_append, each_weaker, each_both, any_none, any_same}
 
 both_false : (operation : Operation) (a b : Bool) → a ≡ false → b ≡ false → keeps operation a b ≡ false
 both_false Unite a b e f = ap (λ t. t || b) e ∙ f

@@ -1,23 +1,8 @@
 -- The rectangles of a canonical list begin at the corners of its set.
-use Rattle.std.proofs.Common.{◌≡◌, ℕ, ◌+◌, ◌*◌, ◌/◌, ◌%◌, ◌<◌, Bool, true, false, not, ◌&&◌, List, [], ◌∷◌, length, map, sym, ap, ◌∙◌, subst, inl, inr, arith, mul_comm}
-use Rattle.std.specs.Prelude.{ℤ, pos, ◌-ℤ◌, ◌<ℤ◌, ◌≤ℤ◌, nat_abs}
-use mathlib.Core.Bool.{beq}
-use Rattle.std.specs.List.{AllByRecursion as Each}
-use Rattle.std.proofs.lemmas.Int.{ints, by_lt_z}
-use Rattle.std.proofs.lemmas.Bool.{false≢true, and_parts, and_from, false_from_ne_true, not-true}
-use Rattle.std.proofs.lemmas.Nat.{mul-add-lt, div-mul-add, mod-mul-add, div-add-mod'}
-use Rattle.std.proofs.lemmas.List.{length-map}
-use Rattle.qws_base.specs.Sides.{Sides}
-use Rattle.qws_base.specs.Points.{spans, any_holds, is_on_screen, pixels, pixel_count, point_of}
-use Rattle.qws_base.specs.Regions.{HasPixels, Precedes, IsRegionOf, IsOnScreen, same_pixels, is_as_above, is_corner, corners, rect_count}
-use Rattle.qws_base.specs.declared.points.Point.{Point}
-use Rattle.qws_base.specs.declared.points.Rect.{Rect}
-use Rattle.qws_base.proofs.PixelLemmas.{same_on_screen}
-use Rattle.qws_base.proofs.Booleans.{equal_from, equal_to, same_test}
-use Rattle.band_regions.proofs.ListLemmas.{In, Pairs, each_from_in, pairs_filter, filter_in, passes_in}
-use Rattle.qws_base.proofs.Integers.{spans_low, spans_high, spans_from}
-use Rattle.band_regions.proofs.Uniqueness.{at, IsPiece, IsGood, good, holder, first_row, piece, moved, same_lists}
-use Rattle.band_regions.proofs.Ascending.{IsBelow, same_ascending, range_ascends, in_range, all_at, all_from, in_map, from_map}
+use Rattle.band_regions.proofs.Words.{◌≡◌, ℕ, ◌+◌, ◌<◌, true, false, ◌&&◌, List, [], ◌∷◌, length, sym, ap, ◌∙◌, subst, inl, inr, arith, Bool, map, ◌*◌, ◌/◌, ◌%◌, not, mul_comm, ℤ, pos, ◌<ℤ◌, ◌≤ℤ◌, ◌-ℤ◌, nat_abs, Each, ints, by_lt_z, length-map, spans, any_holds, is_on_screen, pixels, pixel_count, point_of, HasPixels, Precedes, IsRegionOf, IsOnScreen, same_pixels, is_as_above, is_corner, corners, rect_count, Point, Rect, same_test, equal_from, equal_to, spans_low, spans_high, false≢true, and_parts, and_from, false_from_ne_true, not-true, beq, mul-add-lt, div-mul-add, mod-mul-add, div-add-mod', Sides, same_on_screen}
+use Rattle.band_regions.proofs.Ascending.{IsBelow, range_ascends, in_range, all_at, all_from, in_map, from_map}
+use Rattle.band_regions.proofs.ListLemmas.{Pairs, In, each_from_in, same_members, pairs_filter, filter_in, passes_in}
+use Rattle.band_regions.proofs.Uniqueness.{at, moved, piece, IsPiece, IsCornerOf, piece_corner, corner_top, corner_left, IsGood, good, holder, same_lists}
 
 -- the pixel at which a rectangle begins
 abbrev corner_of : Sides → Rect → ℕ
@@ -90,57 +75,20 @@ alike_to size set y same =
 
 -- ---- each rectangle begins at a corner
 
--- the three facts of a corner
-record IsCornerOf (size : Sides) (set : Point → Bool) (x y : ℤ) : Type 0 where
-  pub there : set (at x y) ≡ true
-  pub left_out : set (at (x -ℤ pos 1) y) ≡ false
-  pub differs : is_as_above size set y ≡ false
-
-corner_from : (size : Sides) (set : Point → Bool) (x y : ℤ) → IsCornerOf size set x y → is_corner size set (at x y) ≡ true
-corner_from size set x y c =
+corner_from : (size : Sides) (set : Point → Bool) (x y : ℤ) → IsOnScreen size set → IsCornerOf set x y → is_corner size set (at x y) ≡ true
+corner_from size set x y on c =
     and_from (set (at x y) && not (set (at (x -ℤ pos 1) y))) (not (is_as_above size set y))
     (and_from (set (at x y)) (not (set (at (x -ℤ pos 1) y))) c.there (ap not c.left_out))
-    (ap not c.differs)
+    (ap not (false_from_ne_true (is_as_above size set y) (λ h. c.differs (alike_from size set y on h))))
 
-corner_parts : (size : Sides) (set : Point → Bool) (x y : ℤ) → is_corner size set (at x y) ≡ true → IsCornerOf size set x y
+corner_parts : (size : Sides) (set : Point → Bool) (x y : ℤ) → is_corner size set (at x y) ≡ true → IsCornerOf set x y
 corner_parts size set x y h =
     let outer = and_parts (set (at x y) && not (set (at (x -ℤ pos 1) y))) (not (is_as_above size set y)) h in
     let inner = and_parts (set (at x y)) (not (set (at (x -ℤ pos 1) y))) outer.0 in
-    record { there = inner.0; left_out = not-true (set (at (x -ℤ pos 1) y)) inner.1; differs = not-true (is_as_above size set y) outer.1 }
-
-first_column : (r : Rect) → HasPixels r → spans r.x r.w r.x ≡ true
-first_column r p = spans_from r.x r.x r.w (omega (arith, ints)) (omega (arith, ints, p.0))
-
-piece_there : (set : Point → Bool) (r : Rect) → IsPiece set r → set (at r.x r.y) ≡ true
-piece_there set r p = p.inside r.x r.y (first_column r p.pixels) (first_row r p.pixels)
-
-piece_corner : (size : Sides) (set : Point → Bool) (r : Rect) → IsOnScreen size set → IsPiece set r → IsCornerOf size set r.x r.y
-piece_corner size set r on p = record {
-  there = piece_there set r p;
-  left_out = p.left_out r.y (first_row r p.pixels);
-  differs = false_from_ne_true (is_as_above size set r.y) (λ h. p.above_differs (alike_from size set r.y on h));
-}
+    record { there = inner.0; left_out = not-true (set (at (x -ℤ pos 1) y)) inner.1; differs = λ same. false≢true (sym (not-true (is_as_above size set y) outer.1) ∙ alike_to size set y same) }
 
 piece_pixel : (size : Sides) (set : Point → Bool) (r : Rect) → IsOnScreen size set → IsPiece set r → IsPixel size r.x r.y
-piece_pixel size set r on p = pixel_on size r.x r.y (on (at r.x r.y) (piece_there set r p))
-
--- ---- and each corner is where a rectangle begins
-
-corner_top : (size : Sides) (set : Point → Bool) (r : Rect) (x y : ℤ) → IsPiece set r → IsCornerOf size set x y → spans r.y r.h y ≡ true → y ≡ r.y
-corner_top size set r x y p c h =
-    let low = spans_low r.y y r.h h in
-    let high = spans_high r.y y r.h h in
-    by_lt_z r.y y
-    (λ l. absurd (false≢true (sym c.differs ∙ alike_to size set y (λ u. p.alike u (y -ℤ pos 1) y (spans_from r.y (y -ℤ pos 1) r.h (omega (arith, ints)) (omega (arith, ints))) h))))
-    (λ l. omega (arith, ints))
-
-corner_left : (size : Sides) (set : Point → Bool) (r : Rect) (x y : ℤ) → IsPiece set r → IsCornerOf size set x y → spans r.x r.w x ≡ true → spans r.y r.h y ≡ true → x ≡ r.x
-corner_left size set r x y p c k h =
-    let low = spans_low r.x x r.w k in
-    let high = spans_high r.x x r.w k in
-    by_lt_z r.x x
-    (λ l. absurd (false≢true (sym c.left_out ∙ p.inside (x -ℤ pos 1) y (spans_from r.x (x -ℤ pos 1) r.w (omega (arith, ints)) (omega (arith, ints))) h)))
-    (λ l. omega (arith, ints))
+piece_pixel size set r on p = pixel_on size r.x r.y (on (at r.x r.y) (piece_corner set r p).there)
 
 -- ---- the corners in order
 
@@ -185,19 +133,19 @@ into_corners size rects set k l m =
     subst (λ n. In n (corners size set)) (sym found.2)
     (filter_in (λ n. is_corner size set (point_of size.w n)) (pixels size) (corner_of size r)
     (in_range 0 (pixel_count size) (corner_of size r) (omega arith) (corner_below size r pixel))
-    (ap (is_corner size set) (point_there size r pixel) ∙ corner_from size set r.x r.y (piece_corner size set r l.on p)))
+    (ap (is_corner size set) (point_there size r pixel) ∙ corner_from size set r.x r.y l.on (piece_corner set r p)))
 
 from_corners : (size : Sides) (rects : List Rect) (set : Point → Bool) (k : ℕ) → IsListOf size rects set → In k (corners size set) → In k (map (corner_of size) rects)
 from_corners size rects set k l m =
     let x : ℤ = pos (k % size.w) in
     let y : ℤ = pos (k / size.w) in
-    let c : IsCornerOf size set x y = corner_parts size set x y (passes_in (λ n. is_corner size set (point_of size.w n)) (pixels size) k m) in
+    let c : IsCornerOf set x y = corner_parts size set x y (passes_in (λ n. is_corner size set (point_of size.w n)) (pixels size) k m) in
     let found = holder rects x y (l.points (at x y) ∙ c.there) in
     let r : Rect = found.0 in
     let p : IsPiece set r = its_piece size rects set r l found.1.member in
-    let top : y ≡ r.y = corner_top size set r x y p c found.1.row in
-    let left : x ≡ r.x = corner_left size set r x y p c found.1.column found.1.row in
-    let number : corner_of size r ≡ k = ap (λ v. nat_abs v * size.w + nat_abs r.x) (sym top) ∙ ap (λ u. k / size.w * size.w + nat_abs u) (sym left) ∙ div-add-mod' k size.w in
+    let top = corner_top set r x y p c found.1.row in
+    let left = corner_left set r x y p c found.1.column found.1.row in
+    let number : corner_of size r ≡ k = ap (λ v. nat_abs v * size.w + nat_abs r.x) top ∙ ap (λ u. k / size.w * size.w + nat_abs u) left ∙ div-add-mod' k size.w in
     subst (λ n. In n (map (corner_of size) rects)) number (in_map (corner_of size) rects r found.1.member)
 
 -- the corners of the set are the pixels at which the rectangles of its canonical list begin, in their order
@@ -205,7 +153,7 @@ pub corners_are : (size : Sides) (rects : List Rect) (set : Point → Bool) → 
 corners_are size rects set on region =
     let l : IsListOf size rects set = record { is_good = good rects region.canonical; on = on; points = region.points } in
     let placed : Each (IsPlaced size) rects = each_from_in (IsPlaced size) rects (λ r m. let p = its_piece size rects set r l m in record { pixels = p.pixels; pixel = piece_pixel size set r on p }) in
-    same_ascending (map (corner_of size) rects) (corners size set)
+    same_members IsBelow (λ a b l m. omega arith) (map (corner_of size) rects) (corners size set)
     (corners_ascend size rects placed l.is_good.sorted)
     (pairs_filter IsBelow (λ n. is_corner size set (point_of size.w n)) (pixels size) (range_ascends 0 (pixel_count size)))
     (λ k m. into_corners size rects set k l m) (λ k m. from_corners size rects set k l m)

@@ -1,19 +1,5 @@
 -- The least rectangle around rectangles.
-use Rattle.std.proofs.Common.{◌≡◌, ℕ, ◌+◌, ◌<◌, true, ◌||◌, ◌⊎◌, List, [], ◌∷◌, length, get_or, take, sym, ap, ◌∙◌, inl, inr, arith}
-use Rattle.std.specs.Prelude.{pos, ◌-ℤ◌, ◌<ℤ◌, ◌≤ℤ◌}
-use Rattle.std.specs.Int.{int_min, int_max}
-use Rattle.std.proofs.lemmas.Int.{ints, clamps}
-use Rattle.std.proofs.lemmas.Bool.{and_parts, and_from, or_cases, or_left, or_right}
-use Rattle.std.proofs.lemmas.List.{take_more}
-use Rattle.std.proofs.lemmas.List.Folds.{list_any-append}
-use Rattle.qws_base.specs.Points.{spans, holds, any_holds}
-use Rattle.qws_base.specs.Regions.{right, bottom, HasPixels}
-use Rattle.qws_base.specs.declared.points.Point.{Point}
-use Rattle.qws_base.specs.declared.points.Rect.{Rect}
-use Rattle.band_regions.specs.Ranges.{IsInRange}
-use Rattle.band_regions.specs.Around.{IsHull, IsLeastAround}
-use Rattle.qws_base.proofs.Booleans.{or_false}
-use Rattle.qws_base.proofs.Integers.{spans_low, spans_high, spans_from}
+use Rattle.band_regions.proofs.Words.{◌≡◌, ℕ, ◌+◌, ◌<◌, true, ◌||◌, ◌⊎◌, List, [], ◌∷◌, length, get_or, take, sym, ap, ◌∙◌, inl, inr, arith, pos, ◌<ℤ◌, ◌≤ℤ◌, ◌-ℤ◌, ints, clamps, take_more, list_any-append, spans, holds, any_holds, bottom, HasPixels, right, Point, Rect, IsInRange, or_false, spans_from, spans_low, spans_high, and_parts, and_from, or_cases, or_left, or_right, int_min, int_max, IsHull, IsLeastAround}
 
 -- a rectangle's columns and rows are within another's
 record IsWithin (r s : Rect) : Type 0 where

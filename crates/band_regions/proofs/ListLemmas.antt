@@ -1,8 +1,5 @@
 -- What holds of each element, of each two, and membership, by recursion on the list.
-use Rattle.std.proofs.Common.{◌≡◌, ℕ, ◌<◌, nat_eq, zero, suc, Bool, true, false, cond, ◌||◌, ◌⊎◌, List, [], ◌∷◌, ◌++◌, length, get_or, refl, sym, ap, ◌∙◌, subst, inl, inr, arith, map}
-use Rattle.std.proofs.lemmas.Bool.{eqb-true}
-use Rattle.std.specs.List.{AllPairs, AllByRecursion as Each, list_any, filter}
-use Rattle.std.proofs.lemmas.List.Elements.{All-from_recursion, recursion_from_All}
+use Rattle.band_regions.proofs.Words.{◌≡◌, ◌<◌, true, false, ◌||◌, ◌⊎◌, List, [], ◌∷◌, ◌++◌, length, refl, sym, ap, ◌∙◌, subst, inl, inr, arith, Bool, nat_eq, zero, suc, cond, map, Each, AllPairs, list_any, filter, All-from_recursion, recursion_from_All, eqb-true, pairs_nil, AllPairs-cons}
 
 abbrev pub Pairs : {X : Type 0} → (X → X → Type 0) → List X → Type 0
 Pairs R [] = Unit {0}
@@ -16,15 +13,9 @@ pub pairs_of : {X : Type 0} (R : X → X → Type 0) (xs : List X) → AllPairs 
 pairs_of R [] h = tt
 pairs_of R (x ∷ xs) h = (recursion_from_All (R x) xs (λ k d l. h zero (suc k) d (omega arith) (omega arith)), pairs_of R xs (λ i j d l m. h (suc i) (suc j) d (omega arith) (omega arith)))
 
-pub pairs_at : {X : Type 0} (R : X → X → Type 0) (xs : List X) → Pairs R xs → (i j : ℕ) (d : X) → i < j → j < length xs → R (get_or xs i d) (get_or xs j d)
-pairs_at R [] h i j d l m = absurd (omega arith)
-pairs_at R (x ∷ xs) h zero zero d l m = absurd (omega arith)
-pairs_at R (x ∷ xs) h zero (suc j) d l m = All-from_recursion (R x) xs h.0 j d (omega arith)
-pairs_at R (x ∷ xs) h (suc i) zero d l m = absurd (omega arith)
-pairs_at R (x ∷ xs) h (suc i) (suc j) d l m = pairs_at R xs h.1 i j d (omega arith) (omega arith)
-
 pub all_pairs_of : {X : Type 0} (R : X → X → Type 0) (xs : List X) → Pairs R xs → AllPairs R xs
-all_pairs_of R xs h i j d l m = pairs_at R xs h i j d l m
+all_pairs_of R [] h = pairs_nil R
+all_pairs_of R (x ∷ xs) h = AllPairs-cons R x xs (All-from_recursion (R x) xs h.0) (all_pairs_of R xs h.1)
 
 pub each_in : {X : Type 0} (P : X → Type 0) (xs : List X) (x : X) → Each P xs → In x xs → P x
 each_in P [] x h m = absurd m
@@ -83,6 +74,27 @@ pairs_in R (z ∷ zs) x y h (inl e) (inl f) = inl (e ∙ sym f)
 pairs_in R (z ∷ zs) x y h (inl e) (inr n) = inr (inl (subst (λ w. R w y) (sym e) (each_in (R z) zs y h.0 n)))
 pairs_in R (z ∷ zs) x y h (inr m) (inl f) = inr (inr (subst (λ w. R w x) (sym f) (each_in (R z) zs x h.0 m)))
 pairs_in R (z ∷ zs) x y h (inr m) (inr n) = pairs_in R zs x y h.1 m n
+
+-- two lists in the same order with the same members are one
+pub same_members : {X : Type 0} (R : X → X → Type 0) → ((x y : X) → R x y → R y x → ⊥) → (xs ys : List X) → Pairs R xs → Pairs R ys → ((z : X) → In z xs → In z ys) → ((z : X) → In z ys → In z xs) → xs ≡ ys
+same_members R once [] [] g k f h = refl
+same_members R once [] (y ∷ ys) g k f h = absurd (h y (inl refl))
+same_members R once (x ∷ xs) [] g k f h = absurd (f x (inl refl))
+same_members {X} R once (x ∷ xs) (y ∷ ys) g k f h =
+    let e : x ≡ y = by_heads (f x (inl refl)) (h y (inl refl)) in
+    ap (λ z. z ∷ xs) e ∙ ap (λ zs. y ∷ zs) (same_members R once xs ys g.1 k.1 (others x y xs ys e g.0 f) (others y x ys xs (sym e) k.0 h))
+  where
+    others : (a b : X) (ks ls : List X) → a ≡ b → Each (R a) ks → ((z : X) → In z (a ∷ ks) → In z (b ∷ ls)) → (z : X) → In z ks → In z ls
+    others a b ks ls e above goes z m = not_first (goes z (inr m))
+      where
+        not_first : In z (b ∷ ls) → In z ls
+        not_first (inl same) = let self : R a a = subst (R a) (same ∙ sym e) (each_in (R a) ks z above m) in absurd (once a a self self)
+        not_first (inr n) = n
+
+    by_heads : In x (y ∷ ys) → In y (x ∷ xs) → x ≡ y
+    by_heads (inl e) n = e
+    by_heads (inr m) (inl e) = sym e
+    by_heads (inr m) (inr n) = absurd (once x y (each_in (R x) xs y g.0 n) (each_in (R y) ys x k.0 m))
 
 -- ---- what a test keeps
 

@@ -1,24 +1,6 @@
 -- Single rectangles, moved lists, and the search for a point.
-use Rattle.std.proofs.Common.{◌≡◌, ℕ, ◌+◌, ◌<◌, ◌≤◌, Bool, true, false, ◌||◌, ◌&&◌, ◌⊎◌, List, [], ◌∷◌, length, get_or, map, take, drop, refl, sym, ap, ◌∙◌, subst, inl, inr, arith}
-use Rattle.std.specs.Prelude.{ℤ, pos, ◌+ℤ◌, ◌-ℤ◌, ◌<ℤ◌, ◌≤ℤ◌, int_le}
-use Rattle.std.specs.List.{All, AllWithin, AllByRecursion as Each, filter}
-use Rattle.std.specs.List.Sorted.{IsPartitionPoint, IsPartitionedBy}
-use Rattle.std.specs.Ordering.{int_eq}
-use Rattle.std.proofs.lemmas.Int.{ints, by_lt_z}
-use Rattle.std.proofs.lemmas.Bool.{false≢true, and_parts, or_cases, and_from, or_left, or_right, cases_lt, false_from_ne_true}
-use Rattle.std.proofs.lemmas.List.{take-append-drop, drop_more, get_or-take, length-take-le, take_all}
-use Rattle.std.proofs.lemmas.List.Elements.{All-from_recursion, recursion_from_All, All-drop}
-use Rattle.std.proofs.lemmas.List.Folds.{list_any-append}
-use Rattle.qws_base.specs.Points.{spans, holds, any_holds, shifted, minus}
-use Rattle.qws_base.specs.Regions.{right, bottom, HasPixels, Precedes, span_of, starts_at, ends_at, IsRegionOf}
-use Rattle.qws_base.specs.declared.points.Point.{Point}
-use Rattle.qws_base.specs.declared.points.Rect.{Rect}
-use Rattle.band_regions.specs.Ranges.{IsInRange, IsInForm, is_before}
-use Rattle.band_regions.proofs.ListLemmas.{Pairs, pairs_of, all_pairs_of, pairs_right, any_none, each_weaker, each_both, each_map, pairs_map, filter-map, any_map}
-use Rattle.qws_base.proofs.Booleans.{same_test, or_false}
-use Rattle.qws_base.proofs.Integers.{le_test, le_told, spans_low, spans_high, spans_from}
-
--- ---- one rectangle, or none
+use Rattle.band_regions.proofs.Words.{◌≡◌, ℕ, ◌+◌, ◌<◌, ◌≤◌, true, false, ◌||◌, ◌&&◌, ◌⊎◌, List, [], ◌∷◌, length, get_or, take, drop, refl, sym, ap, ◌∙◌, subst, inl, inr, arith, Bool, map, ℤ, pos, ◌<ℤ◌, ◌≤ℤ◌, ◌+ℤ◌, ◌-ℤ◌, int_le, All, Each, filter, AllWithin, ints, by_lt_z, take-append-drop, drop_more, get_or-take, length-take-le, take_all, All-from_recursion, recursion_from_All, All-drop, list_any-append, spans, holds, any_holds, shifted, minus, bottom, HasPixels, Precedes, right, span_of, starts_at, ends_at, IsRegionOf, Point, Rect, IsInRange, IsInForm, is_before, or_false, same_test, spans_from, spans_low, le_test, le_told, false≢true, and_parts, and_from, cases_lt, false_from_ne_true, IsPartitionPoint, IsPartitionedBy, int_eq}
+use Rattle.band_regions.proofs.ListLemmas.{Pairs, pairs_of, all_pairs_of, each_weaker, each_both, pairs_right, any_none, each_map, pairs_map, filter-map, any_map}
 
 -- ---- a list that is moved
 
@@ -67,22 +49,13 @@ points_moved d xs p = any_map (λ r. holds r p) (λ r. holds r (minus p d)) (shi
 -- ---- the search for the rectangle that may hold a point
 
 before_is : (r : Rect) (p : Point) → is_before r p ≡ true → holds r p ≡ true → ⊥
-before_is r p e h =
-    let parts = and_parts (spans r.x r.w p.x) (spans r.y r.h p.y) h in
-    let x_high = spans_high r.x p.x r.w parts.0 in
-    let y_high = spans_high r.y p.y r.h parts.1 in
-    by_case (or_cases (int_le (bottom r) p.y) (int_le r.y p.y && int_le (right r) p.x) e) x_high y_high
-  where
-    by_case : (int_le (bottom r) p.y ≡ true) ⊎ ((int_le r.y p.y && int_le (right r) p.x) ≡ true) → p.x <ℤ right r → p.y <ℤ bottom r → ⊥
-    by_case (inl f) a b = let l = le_told (bottom r) p.y f in omega (arith, ints)
-    by_case (inr f) a b = let l = le_told (right r) p.x (and_parts (int_le r.y p.y) (int_le (right r) p.x) f).1 in omega (arith, ints)
+before_is r p e h = absurd (grind (arith, ints))
 
--- a rectangle that precedes one whose rows and columns come to the point, or past which the point is, is before it
 row_before : (r : Rect) (p : Point) → bottom r ≤ℤ p.y → is_before r p ≡ true
-row_before r p l = or_left (int_le (bottom r) p.y) (int_le r.y p.y && int_le (right r) p.x) (le_test (bottom r) p.y l)
+row_before r p l = grind (arith, ints)
 
 column_before : (r : Rect) (p : Point) → r.y ≤ℤ p.y → right r ≤ℤ p.x → is_before r p ≡ true
-column_before r p l m = or_right (int_le (bottom r) p.y) (int_le r.y p.y && int_le (right r) p.x) (and_from (int_le r.y p.y) (int_le (right r) p.x) (le_test r.y p.y l) (le_test (right r) p.x m))
+column_before r p l m = grind (arith, ints)
 
 -- what precedes a rectangle that starts at or before the point's row and column is before the point
 precedes_before : (r s : Rect) (p : Point) → HasPixels s → s.y ≤ℤ p.y → s.x ≤ℤ p.x → Precedes r s → is_before r p ≡ true
@@ -90,16 +63,8 @@ precedes_before r s p h k l (inl same) = let e = same.0 in let g = same.2 in col
 precedes_before r s p h k l (inr below) = row_before r p (omega (arith, ints))
 
 before_falls : (r s : Rect) (p : Point) → HasPixels s → Precedes r s → is_before s p ≡ true → is_before r p ≡ true
-before_falls r s p h k e = by_case (or_cases (int_le (bottom s) p.y) (int_le s.y p.y && int_le (right s) p.x) e) k
-  where
-    by_case : (int_le (bottom s) p.y ≡ true) ⊎ ((int_le s.y p.y && int_le (right s) p.x) ≡ true) → Precedes r s → is_before r p ≡ true
-    by_case (inl f) (inl same) = let l = le_told (bottom s) p.y f in let a = same.0 in let b = same.1 in row_before r p (omega (arith, ints))
-    by_case (inl f) (inr below) = let l = le_told (bottom s) p.y f in row_before r p (omega (arith, ints))
-    by_case (inr f) (inl same) =
-        let parts = and_parts (int_le s.y p.y) (int_le (right s) p.x) f in
-        let l = le_told s.y p.y parts.0 in let m = le_told (right s) p.x parts.1 in let a = same.0 in let g = same.2 in
-        column_before r p (omega (arith, ints)) (omega (arith, ints))
-    by_case (inr f) (inr below) = let l = le_told s.y p.y (and_parts (int_le s.y p.y) (int_le (right s) p.x) f).0 in row_before r p (omega (arith, ints))
+before_falls r s p h (inl same) e = let a = same.0 in let b = same.1 in let g = same.2 in grind (arith, ints)
+before_falls r s p h (inr below) e = let n = h.1 in grind (arith, ints)
 
 -- those before the point come first
 pub before_parted : (rects : List Rect) (p : Point) → IsInForm rects → IsPartitionedBy (λ r. is_before r p) rects

@@ -1,15 +1,6 @@
 -- Two rows of spans with gaps that have the same columns have the same spans.
-use Rattle.std.proofs.Common.{◌≡◌, ◌<◌, Bool, true, false, ◌||◌, List, [], ◌∷◌, map, refl, sym, ap, ◌∙◌, arith}
-use Rattle.std.specs.Prelude.{ℤ, ◌<ℤ◌, ◌≤ℤ◌}
-use Rattle.std.specs.List.{AllByRecursion as Each}
-use Rattle.std.proofs.lemmas.Int.{ints, by_lt_z}
-use Rattle.std.proofs.lemmas.Bool.{false≢true}
-use Rattle.qws_base.specs.Points.{spans}
-use Rattle.qws_base.specs.Regions.{right, span_of}
-use Rattle.qws_base.specs.declared.points.Rect.{Rect}
-use Rattle.band_regions.specs.Rows.{has_column, IsLeftOf}
-use Rattle.band_regions.proofs.ListLemmas.{Pairs, any_none, each_weaker}
-use Rattle.qws_base.proofs.Integers.{spans_high, spans_from, spans_not_before, spans_not_after}
+use Rattle.band_regions.proofs.Words.{◌≡◌, ◌<◌, true, false, ◌||◌, List, [], ◌∷◌, refl, sym, ap, ◌∙◌, arith, Bool, map, ℤ, ◌<ℤ◌, ◌≤ℤ◌, Each, ints, by_lt_z, spans, right, span_of, Rect, IsLeftOf, has_column, spans_not_before, spans_not_after, spans_from, spans_high, false≢true}
+use Rattle.band_regions.proofs.ListLemmas.{Pairs, each_weaker, any_none}
 
 abbrev pub IsWide : Rect → Type 0
 IsWide r = 0 < r.w

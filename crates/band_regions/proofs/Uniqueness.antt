@@ -1,18 +1,6 @@
 -- A canonical list is determined by its points.
-use Rattle.std.proofs.Common.{◌≡◌, ℕ, ◌<◌, Bool, true, false, ◌⊎◌, List, [], ◌∷◌, map, refl, sym, ap, ◌∙◌, subst, inl, inr, arith}
-use Rattle.std.specs.Prelude.{ℤ, pos, ◌+ℤ◌, ◌-ℤ◌, ◌<ℤ◌, ◌≤ℤ◌}
-use Rattle.std.specs.List.{AllByRecursion as Each, filter}
-use Rattle.std.proofs.lemmas.Int.{ints, by_lt_z}
-use Rattle.std.proofs.lemmas.Bool.{false≢true, and_parts, and_from}
-use Rattle.std.proofs.lemmas.List.Elements.{recursion_from_All}
-use Rattle.qws_base.specs.Points.{spans, holds, any_holds}
-use Rattle.qws_base.specs.Regions.{right, bottom, span_of, starts_at, ends_at, HasPixels, Precedes, IsCanonical}
-use Rattle.qws_base.specs.declared.points.Point.{Point}
-use Rattle.qws_base.specs.declared.points.Rect.{Rect}
-use Rattle.band_regions.specs.Rows.{has_column, IsLeftOf}
-use Rattle.qws_base.proofs.Booleans.{same_test}
-use Rattle.band_regions.proofs.ListLemmas.{In, Pairs, pairs_of, pairs_in, pairs_filter, pairs_under, each_in, each_filter, each_passes, each_weaker, each_both, any_in, any_from_in, filter_in, in_filter, passes_in, nil_of_map}
-use Rattle.qws_base.proofs.Integers.{spans_low, spans_high, spans_from, eq_test, eq_told}
+use Rattle.band_regions.proofs.Words.{◌≡◌, ℕ, ◌<◌, true, false, ◌||◌, ◌&&◌, ◌⊎◌, List, [], ◌∷◌, refl, sym, ap, ◌∙◌, subst, inl, inr, arith, Bool, cond, map, ℤ, pos, ◌<ℤ◌, ◌≤ℤ◌, ◌-ℤ◌, Each, filter, ints, by_lt_z, recursion_from_All, spans, holds, any_holds, bottom, HasPixels, Precedes, right, span_of, starts_at, ends_at, IsCanonical, Point, Rect, IsLeftOf, has_column, and_true, and_false, same_test, spans_from, spans_low, spans_high, eq_test, false≢true, and_parts, and_from}
+use Rattle.band_regions.proofs.ListLemmas.{Pairs, In, pairs_of, each_in, each_from_in, each_weaker, each_both, pairs_under, pairs_in, same_members, each_filter, each_passes, pairs_filter, filter_in, any_in, any_from_in, nil_of_map}
 use Rattle.band_regions.proofs.SameSpans.{IsWide, same_spans}
 
 abbrev pub at : ℤ → ℤ → Point
@@ -35,22 +23,31 @@ same_rect r s a b c d =
     let make : ℤ → ℤ → ℕ → ℕ → Rect = λ x y w h. record { x = x; y = y; w = w; h = h } in
     ap (λ x. make x r.y r.w r.h) a ∙ ap (λ y. make s.x y r.w r.h) b ∙ ap (λ w. make s.x s.y w r.h) c ∙ ap (λ h. make s.x s.y s.w h) d
 
-same_top : (set : Point → Bool) (r s : Rect) → IsPiece set r → IsPiece set s → spans s.y s.h r.y ≡ true → s.y ≡ r.y
-same_top set r s p q h =
-    let low = spans_low s.y r.y s.h h in
-    let high = spans_high s.y r.y s.h h in
-    by_lt_z s.y r.y
-    (λ l. absurd (p.above_differs (λ x. q.alike x (r.y -ℤ pos 1) r.y (spans_from s.y (r.y -ℤ pos 1) s.h (omega (arith, ints)) (omega (arith, ints))) h)))
-    (λ l. omega (arith, ints))
+-- where a rectangle of a set begins: the set hasn't the place to its left, nor the same columns in the row above
+pub record IsCornerOf (set : Point → Bool) (x y : ℤ) : Type 0 where
+  pub there : set (at x y) ≡ true
+  pub left_out : set (at (x -ℤ pos 1) y) ≡ false
+  pub differs : ((u : ℤ) → set (at u (y -ℤ pos 1)) ≡ set (at u y)) → ⊥
 
-same_left : (set : Point → Bool) (r s : Rect) → IsPiece set r → IsPiece set s → spans s.y s.h r.y ≡ true → spans s.x s.w r.x ≡ true → s.x ≡ r.x
-same_left set r s p q h k =
-    let low = spans_low s.x r.x s.w k in
-    let high = spans_high s.x r.x s.w k in
-    by_lt_z s.x r.x
-    (λ l. absurd (false≢true (sym (p.left_out r.y (spans_from r.y r.y r.h (omega (arith, ints)) (omega (arith, ints, p.pixels.1))))
-    ∙ q.inside (r.x -ℤ pos 1) r.y (spans_from s.x (r.x -ℤ pos 1) s.w (omega (arith, ints)) (omega (arith, ints))) h)))
-    (λ l. omega (arith, ints))
+first_row : (r : Rect) → HasPixels r → spans r.y r.h r.y ≡ true
+first_row r p = spans_from r.y r.y r.h (omega (arith, ints)) (omega (arith, ints, p.1))
+
+pub piece_corner : (set : Point → Bool) (r : Rect) → IsPiece set r → IsCornerOf set r.x r.y
+piece_corner set r p = record {
+  there = p.inside r.x r.y (spans_from r.x r.x r.w (omega (arith, ints)) (omega (arith, ints, p.pixels.0))) (first_row r p.pixels);
+  left_out = p.left_out r.y (first_row r p.pixels);
+  differs = p.above_differs;
+}
+
+pub corner_top : (set : Point → Bool) (r : Rect) (x y : ℤ) → IsPiece set r → IsCornerOf set x y → spans r.y r.h y ≡ true → r.y ≡ y
+corner_top set r x y p c h =
+    let low = spans_low r.y y r.h h in let high = spans_high r.y y r.h h in
+    by_lt_z r.y y (λ l. absurd (c.differs (λ u. p.alike u (y -ℤ pos 1) y (spans_from r.y (y -ℤ pos 1) r.h (omega (arith, ints)) (omega (arith, ints))) h))) (λ l. omega (arith, ints))
+
+pub corner_left : (set : Point → Bool) (r : Rect) (x y : ℤ) → IsPiece set r → IsCornerOf set x y → spans r.x r.w x ≡ true → spans r.y r.h y ≡ true → r.x ≡ x
+corner_left set r x y p c k h =
+    let low = spans_low r.x x r.w k in let high = spans_high r.x x r.w k in
+    by_lt_z r.x x (λ l. absurd (false≢true (sym c.left_out ∙ p.inside (x -ℤ pos 1) y (spans_from r.x (x -ℤ pos 1) r.w (omega (arith, ints)) (omega (arith, ints))) h))) (λ l. omega (arith, ints))
 
 not_shorter : (set : Point → Bool) (r s : Rect) → IsPiece set r → IsPiece set s → s.y ≡ r.y → s.x ≡ r.x → r.w < s.w → ⊥
 not_shorter set r s p q e f l =
@@ -66,8 +63,8 @@ not_lower set r s p q e l =
 same_piece : (set : Point → Bool) (r s : Rect) → IsPiece set r → IsPiece set s → holds s (at r.x r.y) ≡ true → s ≡ r
 same_piece set r s p q h =
     let parts = and_parts (spans s.x s.w r.x) (spans s.y s.h r.y) h in
-    let top : s.y ≡ r.y = same_top set r s p q parts.1 in
-    let left : s.x ≡ r.x = same_left set r s p q parts.1 parts.0 in
+    let top : s.y ≡ r.y = corner_top set s r.x r.y q (piece_corner set r p) parts.1 in
+    let left : s.x ≡ r.x = corner_left set s r.x r.y q (piece_corner set r p) parts.0 parts.1 in
     let w1 : r.w < s.w → ⊥ = not_shorter set r s p q top left in
     let w2 : s.w < r.w → ⊥ = not_shorter set s r q p (sym top) (sym left) in
     let h1 : r.h < s.h → ⊥ = not_lower set r s p q top in
@@ -123,42 +120,17 @@ held rects x y s h = any_from_in (λ r. holds r (at x y)) rects s h.member (and_
 not_held : (rects : List Rect) (x y : ℤ) → ((s : Rect) → IsHolder rects x y s → ⊥) → any_holds rects (at x y) ≡ false
 not_held rects x y h = same_test (any_holds rects (at x y)) false (λ e. let s = holder rects x y e in absurd (h s.0 s.1)) (λ e. absurd (false≢true e))
 
-pub first_row : (r : Rect) → HasPixels r → spans r.y r.h r.y ≡ true
-first_row r p = spans_from r.y r.y r.h (omega (arith, ints)) (omega (arith, ints, p.1))
-
-last_row : (r : Rect) → HasPixels r → spans r.y r.h (bottom r -ℤ pos 1) ≡ true
-last_row r p = spans_from r.y (bottom r -ℤ pos 1) r.h (omega (arith, ints, p.1)) (omega (arith, ints))
-
-left_gap : (rects : List Rect) (r s : Rect) (y : ℤ) → IsGood rects → In r rects → spans r.y r.h y ≡ true → IsHolder rects (r.x -ℤ pos 1) y s → ⊥
-left_gap rects r s y g m h k = by_place (mate rects r s y g m k.member h k.row).place
+-- no rectangle has the place at the left of another's row, nor the one at its right end
+beside : (rects : List Rect) (r s : Rect) (x y : ℤ) → IsGood rects → In r rects → spans r.y r.h y ≡ true → (x ≡ (r.x -ℤ pos 1)) ⊎ (x ≡ right r) → IsHolder rects x y s → ⊥
+beside rects r s x y g m h e k = by_place e (mate rects r s y g m k.member h k.row).place (spans_low s.x x s.w k.column) (spans_high s.x x s.w k.column)
   where
-    pixels : HasPixels s
-    pixels = each_in HasPixels rects s g.pixels k.member
-
-    low : s.x ≤ℤ (r.x -ℤ pos 1)
-    low = spans_low s.x (r.x -ℤ pos 1) s.w k.column
-
-    high : (r.x -ℤ pos 1) <ℤ right s
-    high = spans_high s.x (r.x -ℤ pos 1) s.w k.column
-
-    by_place : (s ≡ r) ⊎ ((right r <ℤ s.x) ⊎ (right s <ℤ r.x)) → ⊥
-    by_place (inl e) = let f : s.x ≡ r.x = ap (λ t. t.x) e in omega (arith, ints, low)
-    by_place (inr (inl l)) = omega (arith, ints, low)
-    by_place (inr (inr l)) = omega (arith, ints, high)
-
-right_gap : (rects : List Rect) (r s : Rect) (y : ℤ) → IsGood rects → In r rects → spans r.y r.h y ≡ true → IsHolder rects (right r) y s → ⊥
-right_gap rects r s y g m h k = by_place (mate rects r s y g m k.member h k.row).place
-  where
-    low : s.x ≤ℤ right r
-    low = spans_low s.x (right r) s.w k.column
-
-    high : right r <ℤ right s
-    high = spans_high s.x (right r) s.w k.column
-
-    by_place : (s ≡ r) ⊎ ((right r <ℤ s.x) ⊎ (right s <ℤ r.x)) → ⊥
-    by_place (inl e) = let f : right s ≡ right r = ap right e in omega (arith, ints, high)
-    by_place (inr (inl l)) = omega (arith, ints, low)
-    by_place (inr (inr l)) = omega (arith, ints, high)
+    by_place : (x ≡ (r.x -ℤ pos 1)) ⊎ (x ≡ right r) → (s ≡ r) ⊎ ((right r <ℤ s.x) ⊎ (right s <ℤ r.x)) → s.x ≤ℤ x → x <ℤ right s → ⊥
+    by_place (inl e) (inl f) low high = let same = ap (λ t. t.x) f in omega (arith, ints)
+    by_place (inr e) (inl f) low high = let same = ap right f in omega (arith, ints)
+    by_place (inl e) (inr (inl l)) low high = omega (arith, ints)
+    by_place (inr e) (inr (inl l)) low high = omega (arith, ints)
+    by_place (inl e) (inr (inr l)) low high = omega (arith, ints)
+    by_place (inr e) (inr (inr l)) low high = omega (arith, ints)
 
 alike_one : (rects : List Rect) (r : Rect) (x y z : ℤ) → IsGood rects → In r rects → spans r.y r.h y ≡ true → spans r.y r.h z ≡ true → any_holds rects (at x y) ≡ true → any_holds rects (at x z) ≡ true
 alike_one rects r x y z g m h k e =
@@ -168,95 +140,52 @@ alike_one rects r x y z g m h k e =
     let same = mate rects r s y g m its.member h its.row in
     held rects x z s (record { member = its.member; column = its.column; row = ap (λ t. spans t s.h z) same.top ∙ ap (λ n. spans r.y n z) same.height ∙ k })
 
--- a row that no band crosses: those that end there against those that start there
-record IsCut (rects : List Rect) (y : ℤ) : Type 0 where
-  pub above : (s : Rect) → In s rects → spans s.y s.h (y -ℤ pos 1) ≡ true → bottom s ≡ y
-  pub below : (s : Rect) → In s rects → spans s.y s.h y ≡ true → s.y ≡ y
+-- ---- a row that no band crosses: those that end there against those that start there
 
-ending_gap : (y : ℤ) (r s : Rect) → (HasPixels r × (ends_at y r ≡ true)) → (HasPixels s × (ends_at y s ≡ true)) → Precedes r s → IsLeftOf r s
-ending_gap y r s h k (inl same) = same.2
-ending_gap y r s h k (inr above) = let a = eq_told (bottom r) y h.1 in let b = eq_told (bottom s) y k.1 in absurd (omega (arith, ints, k.0.1))
+abbrev IsUncrossed : ℤ → Rect → Type 0
+IsUncrossed y s = (bottom s ≤ℤ y) ⊎ (y ≤ℤ s.y)
 
-starting_gap : (y : ℤ) (r s : Rect) → (HasPixels r × (starts_at y r ≡ true)) → (HasPixels s × (starts_at y s ≡ true)) → Precedes r s → IsLeftOf r s
-starting_gap y r s h k (inl same) = same.2
-starting_gap y r s h k (inr above) = let a = eq_told r.y y h.1 in let b = eq_told s.y y k.1 in absurd (omega (arith, ints, h.0.1))
+ends_spans : (y : ℤ) (s : Rect) → HasPixels s → IsUncrossed y s → ends_at y s ≡ spans s.y s.h (y -ℤ pos 1)
+ends_spans y s p (inl l) = let h = p.1 in grind (arith, ints)
+ends_spans y s p (inr l) = let h = p.1 in grind (arith, ints)
 
-row_above : (rects : List Rect) (y c : ℤ) → IsGood rects → IsCut rects y → has_column (filter (ends_at y) rects) c ≡ any_holds rects (at c (y -ℤ pos 1))
-row_above rects y c g cut =
-    same_test (has_column (filter (ends_at y) rects) c) (any_holds rects (at c (y -ℤ pos 1)))
-    (λ e. let found = any_in (λ r. spans r.x r.w c) (filter (ends_at y) rects) e in
-    let s = found.0 in
-    let member = in_filter (ends_at y) rects s found.1 in
-    let its : bottom s ≡ y = eq_told (bottom s) y (passes_in (ends_at y) rects s found.1) in
-    held rects c (y -ℤ pos 1) s (record { member = member; column = found.2; row = subst (λ z. spans s.y s.h (z -ℤ pos 1) ≡ true) its (last_row s (each_in HasPixels rects s g.pixels member)) }))
-    (λ e. let found = holder rects c (y -ℤ pos 1) e in
-    let s = found.0 in
-    any_from_in (λ r. spans r.x r.w c) (filter (ends_at y) rects) s (filter_in (ends_at y) rects s found.1.member (eq_test (bottom s) y (cut.above s found.1.member found.1.row))) found.1.column)
+starts_spans : (y : ℤ) (s : Rect) → HasPixels s → IsUncrossed y s → starts_at y s ≡ spans s.y s.h y
+starts_spans y s p (inl l) = let h = p.1 in grind (arith, ints)
+starts_spans y s p (inr l) = let h = p.1 in grind (arith, ints)
 
-row_below : (rects : List Rect) (y c : ℤ) → IsGood rects → IsCut rects y → has_column (filter (starts_at y) rects) c ≡ any_holds rects (at c y)
-row_below rects y c g cut =
-    same_test (has_column (filter (starts_at y) rects) c) (any_holds rects (at c y))
-    (λ e. let found = any_in (λ r. spans r.x r.w c) (filter (starts_at y) rects) e in
-    let s = found.0 in
-    let member = in_filter (starts_at y) rects s found.1 in
-    let its : s.y ≡ y = eq_told s.y y (passes_in (starts_at y) rects s found.1) in
-    held rects c y s (record { member = member; column = found.2; row = subst (λ z. spans s.y s.h z ≡ true) its (first_row s (each_in HasPixels rects s g.pixels member)) }))
-    (λ e. let found = holder rects c y e in
-    let s = found.0 in
-    any_from_in (λ r. spans r.x r.w c) (filter (starts_at y) rects) s (filter_in (starts_at y) rects s found.1.member (eq_test s.y y (cut.below s found.1.member found.1.row))) found.1.column)
+-- a test that tells whether a rectangle has a row keeps the spans of that row
+row_columns : (test : Rect → Bool) (rects : List Rect) (z c : ℤ) → Each (λ s. test s ≡ spans s.y s.h z) rects → has_column (filter test rects) c ≡ any_holds rects (at c z)
+row_columns test [] z c h = refl
+row_columns test (s ∷ ss) z c h = by (test s) (row_columns test ss z c h.1) (sym h.0)
+  where
+    by : (b : Bool) → has_column (filter test ss) c ≡ any_holds ss (at c z) → spans s.y s.h z ≡ b → has_column (cond b (s ∷ filter test ss) (filter test ss)) c ≡ ((spans s.x s.w c && spans s.y s.h z) || any_holds ss (at c z))
+    by true e f = ap (λ t. spans s.x s.w c || t) e ∙ ap (λ t. t || any_holds ss (at c z)) (sym (ap (λ t. spans s.x s.w c && t) f ∙ and_true (spans s.x s.w c)))
+    by false e f = e ∙ ap (λ t. t || any_holds ss (at c z)) (sym (ap (λ t. spans s.x s.w c && t) f ∙ and_false (spans s.x s.w c)))
+
+row_gaps : (test : Rect → Bool) (rects : List Rect) (z : ℤ) → IsGood rects → Each (λ s. test s ≡ spans s.y s.h z) rects → Pairs IsLeftOf (filter test rects)
+row_gaps test rects z g h =
+    pairs_under (λ s. spans s.y s.h z ≡ true) Precedes IsLeftOf (λ r s a b p. (precedes_mate r s z a b p).2) (filter test rects)
+    (each_both (λ s. test s ≡ spans s.y s.h z) (λ s. test s ≡ true) (λ s. spans s.y s.h z ≡ true) (λ s e p. sym e ∙ p) (filter test rects) (each_filter (λ s. test s ≡ spans s.y s.h z) test rects h) (each_passes test rects))
+    (pairs_filter Precedes test rects g.sorted)
 
 wide : (test : Rect → Bool) (rects : List Rect) → IsGood rects → Each IsWide (filter test rects)
 wide test rects g = each_weaker HasPixels IsWide (λ r p. p.0) (filter test rects) (each_filter HasPixels test rects g.pixels)
 
-known : (test : Rect → Bool) (rects : List Rect) → IsGood rects → Each (λ r. HasPixels r × (test r ≡ true)) (filter test rects)
-known test rects g = each_both HasPixels (λ r. test r ≡ true) (λ r. HasPixels r × (test r ≡ true)) (λ r p q. (p, q)) (filter test rects) (each_filter HasPixels test rects g.pixels) (each_passes test rects)
-
-same_at_cut : (rects : List Rect) (y : ℤ) → IsGood rects → IsCut rects y → ((x : ℤ) → any_holds rects (at x (y -ℤ pos 1)) ≡ any_holds rects (at x y)) → map span_of (filter (ends_at y) rects) ≡ map span_of (filter (starts_at y) rects)
+same_at_cut : (rects : List Rect) (y : ℤ) → IsGood rects → Each (IsUncrossed y) rects → ((x : ℤ) → any_holds rects (at x (y -ℤ pos 1)) ≡ any_holds rects (at x y)) → map span_of (filter (ends_at y) rects) ≡ map span_of (filter (starts_at y) rects)
 same_at_cut rects y g cut same =
+    let ends = each_both HasPixels (IsUncrossed y) (λ s. ends_at y s ≡ spans s.y s.h (y -ℤ pos 1)) (ends_spans y) rects g.pixels cut in
+    let starts = each_both HasPixels (IsUncrossed y) (λ s. starts_at y s ≡ spans s.y s.h y) (starts_spans y) rects g.pixels cut in
     same_spans (filter (ends_at y) rects) (filter (starts_at y) rects)
-    (wide (ends_at y) rects g) (pairs_under (λ r. HasPixels r × (ends_at y r ≡ true)) Precedes IsLeftOf (ending_gap y) (filter (ends_at y) rects) (known (ends_at y) rects g) (pairs_filter Precedes (ends_at y) rects g.sorted))
-    (wide (starts_at y) rects g) (pairs_under (λ r. HasPixels r × (starts_at y r ≡ true)) Precedes IsLeftOf (starting_gap y) (filter (starts_at y) rects) (known (starts_at y) rects g) (pairs_filter Precedes (starts_at y) rects g.sorted))
-    (λ c. row_above rects y c g cut ∙ same c ∙ sym (row_below rects y c g cut))
+    (wide (ends_at y) rects g) (row_gaps (ends_at y) rects (y -ℤ pos 1) g ends) (wide (starts_at y) rects g) (row_gaps (starts_at y) rects y g starts)
+    (λ c. row_columns (ends_at y) rects (y -ℤ pos 1) c ends ∙ same c ∙ sym (row_columns (starts_at y) rects y c starts))
 
--- ---- above a rectangle and below it is such a row
-
-related : (rects : List Rect) (r s : Rect) → IsGood rects → In r rects → In s rects → ((s.y ≡ r.y) × (s.h ≡ r.h)) ⊎ ((bottom r ≤ℤ s.y) ⊎ (bottom s ≤ℤ r.y))
-related rects r s g m n = by_order (pairs_in Precedes rects r s g.sorted m n)
-  where
-    by_order : (r ≡ s) ⊎ (Precedes r s ⊎ Precedes s r) → ((s.y ≡ r.y) × (s.h ≡ r.h)) ⊎ ((bottom r ≤ℤ s.y) ⊎ (bottom s ≤ℤ r.y))
-    by_order (inl e) = inl (ap (λ t. t.y) (sym e), ap (λ t. t.h) (sym e))
-    by_order (inr (inl (inl p))) = inl (sym p.0, sym p.1)
-    by_order (inr (inl (inr p))) = inr (inl p)
-    by_order (inr (inr (inl p))) = inl (p.0, p.1)
-    by_order (inr (inr (inr p))) = inr (inr p)
-
-cut_above : (rects : List Rect) (r : Rect) → IsGood rects → In r rects → IsCut rects r.y
-cut_above rects r g m = record {
-  above = λ s n h. ends s n (spans_low s.y (r.y -ℤ pos 1) s.h h) (spans_high s.y (r.y -ℤ pos 1) s.h h) (related rects r s g m n);
-  below = λ s n h. (mate rects r s r.y g m n (first_row r (each_in HasPixels rects r g.pixels m)) h).top;
-}
-  where
-    pixels : HasPixels r
-    pixels = each_in HasPixels rects r g.pixels m
-
-    ends : (s : Rect) → In s rects → s.y ≤ℤ (r.y -ℤ pos 1) → (r.y -ℤ pos 1) <ℤ bottom s → ((s.y ≡ r.y) × (s.h ≡ r.h)) ⊎ ((bottom r ≤ℤ s.y) ⊎ (bottom s ≤ℤ r.y)) → bottom s ≡ r.y
-    ends s n l k (inl e) = absurd (omega (arith, ints, e.0))
-    ends s n l k (inr (inl e)) = absurd (omega (arith, ints))
-    ends s n l k (inr (inr e)) = omega (arith, ints)
-
-cut_below : (rects : List Rect) (r : Rect) → IsGood rects → In r rects → IsCut rects (bottom r)
-cut_below rects r g m = record {
-  above = λ s n h. let same = mate rects r s (bottom r -ℤ pos 1) g m n (last_row r pixels) h in ap (λ t. t +ℤ pos s.h) same.top ∙ ap (λ k. r.y +ℤ pos k) same.height;
-  below = λ s n h. starts s n (spans_low s.y (bottom r) s.h h) (spans_high s.y (bottom r) s.h h) (related rects r s g m n);
-}
-  where
-    pixels : HasPixels r
-    pixels = each_in HasPixels rects r g.pixels m
-
-    starts : (s : Rect) → In s rects → s.y ≤ℤ bottom r → bottom r <ℤ bottom s → ((s.y ≡ r.y) × (s.h ≡ r.h)) ⊎ ((bottom r ≤ℤ s.y) ⊎ (bottom s ≤ℤ r.y)) → s.y ≡ bottom r
-    starts s n l k (inl e) = let f : bottom s ≡ bottom r = ap (λ t. t +ℤ pos s.h) e.0 ∙ ap (λ t. r.y +ℤ pos t) e.1 in absurd (omega (arith, ints, f))
-    starts s n l k (inr (inl e)) = omega (arith, ints)
-    starts s n l k (inr (inr e)) = absurd (omega (arith, ints))
+-- where a rectangle begins and where it ends is such a row
+uncrossed : (r s : Rect) → HasPixels r → (r ≡ s) ⊎ (Precedes r s ⊎ Precedes s r) → IsUncrossed r.y s × IsUncrossed (bottom r) s
+uncrossed r s p (inl e) = let top = ap (λ t. t.y) e in let low = ap bottom e in (inr (omega (arith, ints)), inl (omega (arith, ints)))
+uncrossed r s p (inr (inl (inl k))) = let top = k.0 in let height = k.1 in (inr (omega (arith, ints)), inl (omega (arith, ints)))
+uncrossed r s p (inr (inl (inr k))) = let height = p.1 in (inr (omega (arith, ints)), inr k)
+uncrossed r s p (inr (inr (inl k))) = let top = k.0 in let height = k.1 in (inr (omega (arith, ints)), inl (omega (arith, ints)))
+uncrossed r s p (inr (inr (inr k))) = let height = p.1 in (inl k, inl (omega (arith, ints)))
 
 empty_has_none : (xs : List Rect) (r : Rect) → xs ≡ [] → In r xs → ⊥
 empty_has_none xs r e m = subst (In r) e m
@@ -265,12 +194,12 @@ pub piece : (rects : List Rect) (r : Rect) → IsGood rects → In r rects → I
 piece rects r g m = record {
   pixels = pixels;
   inside = λ x y h k. held rects x y r (record { member = m; column = h; row = k });
-  left_out = λ y h. not_held rects (r.x -ℤ pos 1) y (λ s k. left_gap rects r s y g m h k);
-  right_out = λ y h. not_held rects (right r) y (λ s k. right_gap rects r s y g m h k);
+  left_out = λ y h. not_held rects (r.x -ℤ pos 1) y (λ s k. beside rects r s (r.x -ℤ pos 1) y g m h (inl refl) k);
+  right_out = λ y h. not_held rects (right r) y (λ s k. beside rects r s (right r) y g m h (inr refl) k);
   alike = λ x y z h k. same_test (any_holds rects (at x y)) (any_holds rects (at x z)) (alike_one rects r x y z g m h k) (alike_one rects r x z y g m k h);
-  above_differs = λ same. empty_has_none (filter (starts_at r.y) rects) r (g.unmerged r.y (same_at_cut rects r.y g (cut_above rects r g m) same)) (filter_in (starts_at r.y) rects r m (eq_test r.y r.y refl));
+  above_differs = λ same. empty_has_none (filter (starts_at r.y) rects) r (g.unmerged r.y (same_at_cut rects r.y g (each_from_in (IsUncrossed r.y) rects (λ s n. (uncrossed r s pixels (pairs_in Precedes rects r s g.sorted m n)).0)) same)) (filter_in (starts_at r.y) rects r m (eq_test r.y r.y refl));
   below_differs = λ same.
-      let spans_same = same_at_cut rects (bottom r) g (cut_below rects r g m) same in
+      let spans_same = same_at_cut rects (bottom r) g (each_from_in (IsUncrossed (bottom r)) rects (λ s n. (uncrossed r s pixels (pairs_in Precedes rects r s g.sorted m n)).1)) same in
       empty_has_none (filter (ends_at (bottom r)) rects) r (nil_of_map span_of (filter (ends_at (bottom r)) rects) (spans_same ∙ ap (map span_of) (g.unmerged (bottom r) spans_same))) (filter_in (ends_at (bottom r)) rects r m (eq_test (bottom r) (bottom r) refl));
 }
   where
@@ -285,25 +214,13 @@ precedes_not_both r s p q (inl a) (inr b) = omega (arith, ints, a.0, q.1)
 precedes_not_both r s p q (inr a) (inl b) = omega (arith, ints, b.0, p.1)
 precedes_not_both r s p q (inr a) (inr b) = omega (arith, ints, p.1, q.1)
 
-same_members : (xs ys : List Rect) → Each HasPixels xs → Pairs Precedes xs → Each HasPixels ys → Pairs Precedes ys → ((r : Rect) → In r xs → In r ys) → ((r : Rect) → In r ys → In r xs) → xs ≡ ys
-same_members [] [] p g q k f h = refl
-same_members [] (y ∷ ys) p g q k f h = absurd (h y (inl refl))
-same_members (x ∷ xs) [] p g q k f h = absurd (f x (inl refl))
-same_members (x ∷ xs) (y ∷ ys) p g q k f h =
-    by_heads (f x (inl refl)) (h y (inl refl))
-    (λ e. ap (λ z. z ∷ xs) e ∙ ap (λ zs. y ∷ zs) (same_members xs ys p.1 g.1 q.1 k.1 (others x y xs ys e p.0 g.0 f) (others y x ys xs (sym e) q.0 k.0 h)))
-  where
-    others : (a b : Rect) (ks ls : List Rect) → a ≡ b → HasPixels a → Each (Precedes a) ks → ((r : Rect) → In r (a ∷ ks) → In r (b ∷ ls)) → (r : Rect) → In r ks → In r ls
-    others a b ks ls e pixels before goes r m = not_first (goes r (inr m))
-      where
-        not_first : In r (b ∷ ls) → In r ls
-        not_first (inl same) = let self : Precedes a a = subst (Precedes a) (same ∙ sym e) (each_in (Precedes a) ks r before m) in absurd (precedes_not_both a a pixels pixels self self)
-        not_first (inr n) = n
+record IsOrdered (r s : Rect) : Type 0 where
+  pub first : HasPixels r
+  pub second : HasPixels s
+  pub precedes : Precedes r s
 
-    by_heads : In x (y ∷ ys) → In y (x ∷ xs) → (x ≡ y → (x ∷ xs) ≡ (y ∷ ys)) → (x ∷ xs) ≡ (y ∷ ys)
-    by_heads (inl e) n then = then e
-    by_heads (inr m) (inl e) then = then (sym e)
-    by_heads (inr m) (inr n) then = absurd (precedes_not_both x y p.0 q.0 (each_in (Precedes x) xs y g.0 n) (each_in (Precedes y) ys x k.0 m))
+ordered : (rects : List Rect) → IsGood rects → Pairs IsOrdered rects
+ordered rects g = pairs_under HasPixels Precedes IsOrdered (λ r s p q k. record { first = p; second = q; precedes = k }) rects g.pixels g.sorted
 
 -- a piece of a set is one of an equal set
 pub moved : (other set : Point → Bool) (r : Rect) → ((p : Point) → set p ≡ other p) → IsPiece other r → IsPiece set r
@@ -320,8 +237,7 @@ moved other set r same p = record {
 into : (xs ys : List Rect) → IsGood xs → IsGood ys → ((p : Point) → any_holds xs p ≡ any_holds ys p) → (r : Rect) → In r xs → In r ys
 into xs ys g k same r m =
     let mine : IsPiece (any_holds xs) r = piece xs r g m in
-    let its_x = spans_from r.x r.x r.w (omega (arith, ints)) (omega (arith, ints, mine.pixels.0)) in
-    let found = holder ys r.x r.y (sym (same (at r.x r.y)) ∙ mine.inside r.x r.y its_x (first_row r mine.pixels)) in
+    let found = holder ys r.x r.y (sym (same (at r.x r.y)) ∙ (piece_corner (any_holds xs) r mine).there) in
     let s = found.0 in
     let theirs : IsPiece (any_holds xs) s = moved (any_holds ys) (any_holds xs) s same (piece ys s k found.1.member) in
     subst (λ t. In t ys) (same_piece (any_holds xs) r s mine theirs (and_from (spans s.x s.w r.x) (spans s.y s.h r.y) found.1.column found.1.row)) found.1.member
@@ -331,4 +247,4 @@ pub same_lists : (xs ys : List Rect) → IsCanonical xs → IsCanonical ys → (
 same_lists xs ys h k same =
     let g = good xs h in
     let f = good ys k in
-    same_members xs ys g.pixels g.sorted f.pixels f.sorted (into xs ys g f same) (into ys xs f g (λ p. sym (same p)))
+    same_members IsOrdered (λ r s a b. precedes_not_both r s a.first a.second a.precedes b.precedes) xs ys (ordered xs g) (ordered ys f) (into xs ys g f same) (into ys xs f g (λ p. sym (same p)))

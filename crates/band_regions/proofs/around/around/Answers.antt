@@ -1,4 +1,4 @@
-use Rattle.std.proofs.Common.{arith}
+use Rattle.band_regions.proofs.Words.{arith}
 use Rattle.band_regions.proofs.BandLemmas.{no_rect}
 use Rattle.band_regions.proofs.Hulls.{around_more}
 use Rattle.band_regions.proofs.around.around.Goals as goal

@@ -1,8 +1,4 @@
-use Rattle.std.proofs.Common.{take}
-use Rattle.qws_base.specs.Points.{any_holds}
-use Rattle.qws_base.specs.Regions.{HasPixels}
-use Rattle.band_regions.specs.Ranges.{IsInRange}
-use Rattle.band_regions.specs.Around.{IsLeastAround}
+use Rattle.band_regions.proofs.Words.{take, any_holds, HasPixels, IsInRange, IsLeastAround}
 use Rattle.band_regions.proofs.around.around.Given as goal
 
 abbrev pub invariant-loop-i : goal.invariant-loop-i

@@ -1,8 +1,4 @@
-use Rattle.std.proofs.Common.{◌≡◌, to_z, of_z, w32, arith}
-use Rattle.std.specs.Prelude.{pos, ◌+ℤ◌}
-use Rattle.std.specs.Int.{int_min, int_max}
-use Rattle.std.proofs.lemmas.Int.{ints, clamps}
-use Rattle.qws_base.specs.Regions.{right, bottom}
+use Rattle.band_regions.proofs.Words.{◌≡◌, arith, to_z, of_z, w32, pos, ◌+ℤ◌, ints, clamps, bottom, right, int_min, int_max}
 use Rattle.band_regions.proofs.Hulls.{hull_of}
 use Rattle.band_regions.proofs.around.hull.Goals as goal
 

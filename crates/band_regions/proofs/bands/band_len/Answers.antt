@@ -1,9 +1,5 @@
-use Rattle.std.proofs.Common.{◌≡◌, to_z, of_z, w32, arith}
-use Rattle.std.proofs.lemmas.Int.{ints}
-use Rattle.std.proofs.lemmas.List.Elements.{All-more}
-use Rattle.qws_base.specs.declared.points.Rect.{Rect}
-use Rattle.band_regions.proofs.BandLemmas.{no_rect}
-use Rattle.band_regions.proofs.BandLemmas.{beyond}
+use Rattle.band_regions.proofs.Words.{◌≡◌, arith, to_z, of_z, w32, ints, All-more, Rect}
+use Rattle.band_regions.proofs.BandLemmas.{no_rect, beyond}
 use Rattle.band_regions.proofs.bands.band_len.Goals as goal
 
 pub loop-n-preserved : goal.loop-n-preserved

@@ -1,5 +1,4 @@
-use Rattle.std.proofs.Common.{length, ◌-◌, ◌≡◌, ◌≤◌, take}
-use Rattle.std.specs.List.{All}
+use Rattle.band_regions.proofs.Words.{◌≡◌, ◌-◌, ◌≤◌, length, take, All}
 use Rattle.band_regions.proofs.bands.band_len.Given as goal
 
 abbrev pub invariant-loop-n : goal.invariant-loop-n

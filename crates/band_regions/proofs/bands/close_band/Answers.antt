@@ -1,11 +1,6 @@
-use Rattle.std.proofs.Common.{◌≡◌, ◌∙◌, ap, sym, subst, length, map, take, drop, ◌++◌, ◌≤◌, refl, arith}
-use Rattle.std.specs.Prelude.{pos, ◌+ℤ◌}
-use Rattle.std.proofs.lemmas.Int.{ints}
-use Rattle.std.proofs.lemmas.List.{take_rest, take_all, take-append-drop, length-take-le}
-use Rattle.qws_base.specs.Regions.{span_of}
-use Rattle.band_regions.specs.Bands.{IsSweptTo}
-use Rattle.band_regions.proofs.BandLemmas.{any_parts, part_is}
+use Rattle.band_regions.proofs.Words.{◌≡◌, ◌≤◌, ◌++◌, length, take, drop, refl, sym, ap, ◌∙◌, subst, arith, map, pos, ◌+ℤ◌, ints, take-append-drop, length-take-le, take_all, take_rest, span_of, IsSweptTo}
 use Rattle.band_regions.proofs.BandEnds.{swept_on, swept_more, swept_taller, points_taller}
+use Rattle.band_regions.proofs.BandLemmas.{part_is, any_parts}
 use Rattle.band_regions.proofs.bands.close_band.Goals as goal
 
 pub returns-then-len-start-clause-swept : goal.returns-then-len-start-clause-swept

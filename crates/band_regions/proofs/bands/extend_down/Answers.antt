@@ -1,6 +1,4 @@
-use Rattle.std.proofs.Common.{arith, take, drop}
-use Rattle.std.proofs.lemmas.List.{length-take-le, length-drop}
-use Rattle.band_regions.specs.Bands.{taller}
+use Rattle.band_regions.proofs.Words.{take, drop, arith, length-take-le, length-drop, taller}
 use Rattle.band_regions.proofs.BandEnds.{extended}
 use Rattle.band_regions.proofs.bands.extend_down.Goals as goal
 

@@ -1,5 +1,4 @@
-use Rattle.std.proofs.Common.{◌≡◌, ◌-◌, ◌++◌, map, take, drop}
-use Rattle.band_regions.specs.Bands.{taller}
+use Rattle.band_regions.proofs.Words.{◌≡◌, ◌-◌, ◌++◌, take, drop, map, taller}
 use Rattle.band_regions.proofs.bands.extend_down.Given as goal
 
 abbrev pub invariant-loop-i : goal.invariant-loop-i

@@ -1,4 +1,4 @@
-use Rattle.std.proofs.Common.{arith}
+use Rattle.band_regions.proofs.Words.{arith}
 use Rattle.band_regions.proofs.BandLemmas.{no_rect, cast_y, tops, first_len_is}
 use Rattle.band_regions.proofs.bands.first_len.Goals as goal
 

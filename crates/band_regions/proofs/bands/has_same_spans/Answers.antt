@@ -1,6 +1,6 @@
-use Rattle.std.proofs.Common.{ap, of_z, w32, arith}
-use Rattle.band_regions.proofs.BandLemmas.{no_rect}
+use Rattle.band_regions.proofs.Words.{ap, arith, of_z, w32}
 use Rattle.band_regions.proofs.BandEnds.{same_at}
+use Rattle.band_regions.proofs.BandLemmas.{no_rect}
 use Rattle.band_regions.proofs.bands.has_same_spans.Goals as goal
 use Rattle.band_regions.proofs.bands.has_same_spans.Goals.{then-r-s-via-then-r-s, then-r-s-via-else-r-s+then-r-s-2}
 

@@ -1,5 +1,4 @@
-use Rattle.std.proofs.Common.{◌≡◌, map, take}
-use Rattle.qws_base.specs.Regions.{span_of}
+use Rattle.band_regions.proofs.Words.{◌≡◌, take, map, span_of}
 use Rattle.band_regions.proofs.bands.has_same_spans.Given as goal
 
 abbrev pub invariant-loop-i : goal.invariant-loop-i

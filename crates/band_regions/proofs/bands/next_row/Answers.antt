@@ -1,8 +1,5 @@
-use Rattle.std.proofs.Common.{◌≡◌, ◌∙◌, sym, to_z, of_z, w32, arith}
-use Rattle.std.proofs.lemmas.Int.{ints}
-use Rattle.band_regions.specs.Bands.{in_row}
-use Rattle.band_regions.proofs.BandLemmas.{no_rect}
-use Rattle.band_regions.proofs.BandLemmas.{cast_y, reach_above, reach_below, none_above, alike_in_band}
+use Rattle.band_regions.proofs.Words.{◌≡◌, sym, ◌∙◌, arith, to_z, of_z, w32, ints, in_row}
+use Rattle.band_regions.proofs.BandLemmas.{no_rect, cast_y, reach_above, none_above, reach_below, alike_in_band}
 use Rattle.band_regions.proofs.bands.next_row.Goals as goal
 
 pub returns-then-from-rect-clause-no_end_before : goal.returns-then-from-rect-clause-no_end_before

@@ -1,6 +1,4 @@
-use Rattle.std.proofs.Common.{arith}
-use Rattle.std.proofs.lemmas.Int.{ints}
-use Rattle.std.proofs.lemmas.List.{take_rest}
+use Rattle.band_regions.proofs.Words.{arith, ints, take_rest}
 use Rattle.band_regions.proofs.BandLemmas.{no_rect, first_band, past_band, past_no_band}
 use Rattle.band_regions.proofs.bands.past_row.Goals as goal
 

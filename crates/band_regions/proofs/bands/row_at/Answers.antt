@@ -1,7 +1,5 @@
-use Rattle.std.proofs.Common.{arith, sym}
-use Rattle.std.proofs.lemmas.Int.{ints}
-use Rattle.band_regions.specs.Bands.{in_row}
-use Rattle.band_regions.proofs.BandLemmas.{no_rect, cast_y, first_band, row_of_first, none_above}
+use Rattle.band_regions.proofs.Words.{sym, arith, ints, in_row}
+use Rattle.band_regions.proofs.BandLemmas.{no_rect, cast_y, none_above, first_band, row_of_first}
 use Rattle.band_regions.proofs.bands.row_at.Goals as goal
 
 pub returns-then-rect-row-clause-is_row : goal.returns-then-rect-row-clause-is_row

@@ -1,10 +1,6 @@
-use Rattle.std.proofs.Common.{◌≡◌, ◌∙◌, sym, to_z, of_z, w32, arith}
-use Rattle.std.proofs.lemmas.Int.{ints}
-use Rattle.std.proofs.lemmas.Bool.{false≢true}
+use Rattle.band_regions.proofs.Words.{◌≡◌, sym, ◌∙◌, arith, to_z, of_z, w32, ints, shifted, shift_of, false≢true}
 use Rattle.band_regions.proofs.Questions.{in_range_of, sides_of}
-use Rattle.band_regions.specs.Ranges.{shift_of}
 use Rattle.band_regions.proofs.regions.is_in_range.Goals as goal
-use Rattle.qws_base.specs.Points.{shifted}
 
 pub returns-then-is_side_in_range : goal.returns-then-is_side_in_range
 returns-then-is_side_in_range c =

@@ -1,6 +1,4 @@
-use Rattle.std.proofs.Common.{◌≡◌, to_z, of_z, w64, arith}
-use Rattle.std.specs.Prelude.{pos, ◌+ℤ◌}
-use Rattle.std.proofs.lemmas.Int.{ints}
+use Rattle.band_regions.proofs.Words.{◌≡◌, arith, to_z, of_z, w64, pos, ◌+ℤ◌, ints}
 use Rattle.band_regions.proofs.Questions.{side_tests}
 use Rattle.band_regions.proofs.regions.is_side_in_range.Goals as goal
 

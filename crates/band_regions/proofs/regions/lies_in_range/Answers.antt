@@ -1,9 +1,4 @@
-use Rattle.std.proofs.Common.{◌≡◌, sym, subst, arith, refl}
-use Rattle.std.specs.Prelude.{pos, ◌+ℤ◌}
-use Rattle.std.proofs.lemmas.Int.{ints}
-use Rattle.qws_base.specs.Points.{shifted}
-use Rattle.qws_base.specs.declared.points.Rect.{Rect}
-use Rattle.band_regions.specs.Ranges.{IsInRange, shift_of}
+use Rattle.band_regions.proofs.Words.{◌≡◌, refl, sym, subst, arith, pos, ◌+ℤ◌, ints, shifted, Rect, IsInRange, shift_of}
 use Rattle.band_regions.proofs.regions.lies_in_range.Goals as goal
 
 at_place : (r : Rect) → shifted (shift_of (pos 0) (pos 0)) r ≡ r

@@ -1,6 +1,4 @@
-use Rattle.std.proofs.Common.{◌≡◌, to_z, of_z, w32, arith}
-use Rattle.std.specs.Prelude.{◌+ℤ◌}
-use Rattle.std.proofs.lemmas.Int.{ints}
+use Rattle.band_regions.proofs.Words.{◌≡◌, arith, to_z, of_z, w32, ◌+ℤ◌, ints}
 use Rattle.band_regions.proofs.regions.moved.Goals as goal
 
 pub returns : goal.returns

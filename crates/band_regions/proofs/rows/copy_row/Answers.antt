@@ -1,7 +1,4 @@
-use Rattle.std.proofs.Common.{◌≡◌, ◌∙◌, ◌++◌, ap, sym, map, subst, arith, to_z, of_z, w32}
-use Rattle.std.proofs.lemmas.Int.{ints}
-use Rattle.std.proofs.lemmas.List.{take_all}
-use Rattle.band_regions.specs.Rows.{IsAdded, has_column}
+use Rattle.band_regions.proofs.Words.{◌≡◌, ◌++◌, sym, ap, ◌∙◌, subst, arith, to_z, of_z, w32, map, ints, take_all, has_column, IsAdded}
 use Rattle.band_regions.proofs.RowMerges.{leveled, copied}
 use Rattle.band_regions.proofs.rows.copy_row.Goals as goal
 

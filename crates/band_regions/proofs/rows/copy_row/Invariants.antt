@@ -1,4 +1,4 @@
-use Rattle.std.proofs.Common.{◌≡◌, ◌++◌, map, take}
+use Rattle.band_regions.proofs.Words.{◌≡◌, ◌++◌, take, map}
 use Rattle.band_regions.proofs.RowMerges.{leveled}
 use Rattle.band_regions.proofs.rows.copy_row.Given as goal
 

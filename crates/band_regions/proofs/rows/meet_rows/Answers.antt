@@ -1,9 +1,7 @@
-use Rattle.std.proofs.Common.{◌≡◌, ◌<◌, length, to_z, of_z, w32, arith}
-use Rattle.std.proofs.lemmas.Int.{ints, clamps}
-use Rattle.band_regions.proofs.ListLemmas.{no_more, some_more}
-use Rattle.std.proofs.lemmas.List.{take_rest}
+use Rattle.band_regions.proofs.Words.{◌≡◌, ◌<◌, ◌&&◌, length, ap, ◌∙◌, arith, to_z, of_z, w32, ints, clamps, take_rest, has_column, and_false}
 use Rattle.band_regions.proofs.BandLemmas.{no_rect}
-use Rattle.band_regions.proofs.RowMerges.{start_place, meeting_none, meet_first, meet_second, meet_none, meet_no_second}
+use Rattle.band_regions.proofs.ListLemmas.{no_more, some_more}
+use Rattle.band_regions.proofs.RowMerges.{row_start, start_place, cut_all, meeting_none, meet_first, meet_second}
 use Rattle.band_regions.proofs.rows.meet_rows.Goals as goal
 
 pub loop-first-init : goal.loop-first-init
@@ -11,8 +9,8 @@ loop-first-init c = meeting_none _ c.args.height c.args.rects.now.items c.args.f
 
 pub push_columns-requires-clause-low : goal.push_columns-requires-clause-low
 push_columns-requires-clause-low c =
-    let s = start_place c.loop-first.first.now c.start_of.result c.loop-first.invariant.cut.row c.start_of.ensures in
-    omega (arith, ints, clamps, s.low, c.max-from.ensures.value)
+    let s = start_place c.loop-first.first.now c.loop-first.invariant.cut.row in
+    omega (arith, ints, clamps, s.low, c.max-from.ensures.value, c.start_of.ensures)
 
 pub push_columns-requires-clause-high : goal.push_columns-requires-clause-high
 push_columns-requires-clause-high c =
@@ -35,9 +33,11 @@ loop-first-preserved c =
 pub returns-else-not-is_empty : goal.returns-else-not-is_empty
 returns-else-not-is_empty c =
     let top : to_z w32 (of_z w32 c.args.top) ≡ c.args.top = omega (arith, ints) in
-    meet_no_second c.args.top c.args.height c.args.rects.now.items _ c.loop-first.first.now c.loop-first.second.now c.loop-first.rects.items (rw top at c.loop-first.invariant) (no_more c.loop-first.second.now c.if-not-is_empty.ensures)
+    cut_all c.args.top c.args.height c.args.rects.now.items _ (row_start c.loop-first.second.now) (has_column c.loop-first.second.now) c.loop-first.first.now c.loop-first.rects.items (rw top at c.loop-first.invariant.cut)
+    (λ x. ap (λ xs. has_column c.loop-first.first.now x && has_column xs x) (no_more c.loop-first.second.now c.if-not-is_empty.ensures) ∙ and_false (has_column c.loop-first.first.now x))
 
 pub returns-after-loop-first : goal.returns-after-loop-first
 returns-after-loop-first c =
     let top : to_z w32 (of_z w32 c.args.top) ≡ c.args.top = omega (arith, ints) in
-    meet_none c.args.top c.args.height c.args.rects.now.items _ c.loop-first.first.now c.loop-first.second.now c.loop-first.rects.items (rw top at c.loop-first.invariant) (no_more c.loop-first.first.now c.loop-first-test.ensures)
+    cut_all c.args.top c.args.height c.args.rects.now.items _ (row_start c.loop-first.second.now) (has_column c.loop-first.second.now) c.loop-first.first.now c.loop-first.rects.items (rw top at c.loop-first.invariant.cut)
+    (λ x. ap (λ xs. has_column xs x && has_column c.loop-first.second.now x) (no_more c.loop-first.first.now c.loop-first-test.ensures))

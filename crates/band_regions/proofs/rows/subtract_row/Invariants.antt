@@ -1,6 +1,4 @@
-use Rattle.std.proofs.Common.{◌&&◌, ◌+◌, length}
-use Rattle.std.specs.Prelude.{not}
-use Rattle.band_regions.specs.Rows.{has_column}
+use Rattle.band_regions.proofs.Words.{◌+◌, ◌&&◌, length, not, has_column}
 use Rattle.band_regions.proofs.RowMerges.{IsSubtracting}
 use Rattle.band_regions.proofs.rows.subtract_row.Given as goal
 

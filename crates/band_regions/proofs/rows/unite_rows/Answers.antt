@@ -1,8 +1,4 @@
-use Rattle.std.proofs.Common.{◌≡◌, ◌∙◌, ap, to_z, of_z, w32, arith}
-use Rattle.std.specs.Int.{int_max}
-use Rattle.qws_base.specs.Regions.{right}
-use Rattle.std.proofs.lemmas.Int.{ints, clamps}
-use Rattle.std.proofs.lemmas.Result.{on_ok_weaker}
+use Rattle.band_regions.proofs.Words.{◌≡◌, ap, ◌∙◌, arith, to_z, of_z, w32, ints, clamps, right, int_max, on_ok_weaker}
 use Rattle.band_regions.proofs.ListLemmas.{no_more}
 use Rattle.band_regions.proofs.RowMerges.{uniting_none, uniting_on, uniting_gap, uniting_all}
 use Rattle.band_regions.proofs.rows.unite_rows.Goals as goal

@@ -1,5 +1,4 @@
-use Rattle.std.proofs.Common.{◌||◌, ◌+◌, length}
-use Rattle.band_regions.specs.Rows.{has_column}
+use Rattle.band_regions.proofs.Words.{◌+◌, ◌||◌, length, has_column}
 use Rattle.band_regions.proofs.RowMerges.{IsUniting}
 use Rattle.band_regions.proofs.rows.unite_rows.Given as goal
 

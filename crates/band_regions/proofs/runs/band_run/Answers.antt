@@ -1,8 +1,6 @@
-use Rattle.std.proofs.Common.{◌≡◌, ◌∙◌, length, to_z, of_z, w32, arith}
-use Rattle.std.proofs.lemmas.Int.{ints}
+use Rattle.band_regions.proofs.Words.{◌≡◌, length, get_or, ◌∙◌, arith, to_z, of_z, w32, ints}
 use Rattle.band_regions.proofs.BandLemmas.{no_rect}
-use Rattle.band_regions.proofs.BandRuns.{run_none, span_of_next, run_more, run_of}
-use Rattle.std.proofs.Common.{get_or}
+use Rattle.band_regions.proofs.BandRuns.{span_of_next, run_more, run_none, run_of}
 use Rattle.band_regions.proofs.runs.band_run.Goals as goal
 
 pub loop-n-init : goal.loop-n-init

@@ -1,10 +1,4 @@
-use Rattle.std.proofs.Common.{◌≡◌, ◌∙◌, ◌≤◌, ap, sym, map, to_z, of_z, w32, arith}
-use Rattle.std.proofs.lemmas.Int.{ints}
-use Rattle.std.proofs.lemmas.List.{take_rest, length-drop, length-take-le}
-use Rattle.std.proofs.lemmas.List.Elements.{All-drop}
-use Rattle.std.proofs.lemmas.Bool.{false≢true}
-use Rattle.qws_base.specs.Regions.{span_of}
-use Rattle.band_regions.specs.Ranges.{IsInRange}
+use Rattle.band_regions.proofs.Words.{◌≡◌, ◌≤◌, sym, ap, ◌∙◌, arith, to_z, of_z, w32, map, ints, length-take-le, take_rest, length-drop, All-drop, span_of, IsInRange, false≢true}
 use Rattle.band_regions.proofs.BandLemmas.{no_rect, part_is}
 use Rattle.band_regions.proofs.BandRuns.{swept_run}
 use Rattle.band_regions.proofs.runs.canonical_len.Goals as goal

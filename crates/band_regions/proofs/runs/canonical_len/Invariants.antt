@@ -1,5 +1,4 @@
-use Rattle.std.proofs.Common.{◌-◌, ◌≤◌, length, take}
-use Rattle.band_regions.specs.Bands.{IsSweptTo}
+use Rattle.band_regions.proofs.Words.{◌-◌, ◌≤◌, length, take, IsSweptTo}
 use Rattle.band_regions.proofs.runs.canonical_len.Given as goal
 
 abbrev pub invariant-loop-end : goal.invariant-loop-end

@@ -1,7 +1,6 @@
-use Rattle.std.proofs.Common.{◌≡◌, length, to_z, of_z, w32, arith}
-use Rattle.std.proofs.lemmas.Int.{ints, clamps}
+use Rattle.band_regions.proofs.Words.{◌≡◌, length, arith, to_z, of_z, w32, ints, clamps}
+use Rattle.band_regions.proofs.BandSweep.{swept_none, reach_less, swept_step, front_is, end_is, points_added, more_left, swept_all}
 use Rattle.band_regions.proofs.ListLemmas.{no_more}
-use Rattle.band_regions.proofs.BandSweep.{swept_none, swept_step, swept_all, reach_less, more_left, front_is, end_is, points_added}
 use Rattle.band_regions.proofs.sweeps.sweep.Goals as goal
 use Rattle.band_regions.proofs.sweeps.sweep.Goals.{then-not-is_empty, else-not-is_empty+then-not-is_empty-2}
 

@@ -1,5 +1,4 @@
-use Rattle.std.specs.Prelude.{pos, ◌-ℤ◌, nat_abs}
-use Rattle.band_regions.specs.Bands.{IsFirstLen}
+use Rattle.band_regions.proofs.Words.{pos, ◌-ℤ◌, nat_abs, IsFirstLen}
 use Rattle.band_regions.proofs.BandSweep.{IsSwept}
 use Rattle.band_regions.proofs.sweeps.sweep.Given as goal
 

@@ -1,4 +1,4 @@
-use Rattle.std.proofs.lemmas.List.{take_rest}
+use Rattle.band_regions.proofs.Words.{take_rest}
 use Rattle.band_regions.proofs.RegionLemmas.{region_split}
 use Rattle.band_regions.proofs.regions.Region.+of_rects.Goals as goal
 

@@ -1,10 +1,4 @@
-use Rattle.std.proofs.Common.{◌≡◌, ◌∙◌, subst, to_z, of_z, w32, arith, refl, sym}
-use Rattle.std.specs.List.{All}
-use Rattle.std.proofs.lemmas.Int.{ints}
-use Rattle.std.proofs.lemmas.List.{take_all}
-use Rattle.std.proofs.lemmas.List.Elements.{All-more}
-use Rattle.std.proofs.lemmas.Bool.{false≢true}
-use Rattle.band_regions.specs.Ranges.{IsShiftable}
+use Rattle.band_regions.proofs.Words.{◌≡◌, refl, sym, ◌∙◌, subst, arith, to_z, of_z, w32, All, ints, take_all, All-more, IsShiftable, false≢true}
 use Rattle.band_regions.proofs.BandLemmas.{no_rect}
 use Rattle.band_regions.proofs.regions.Region.can_shift.Goals as goal
 

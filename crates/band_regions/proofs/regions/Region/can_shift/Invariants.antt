@@ -1,6 +1,4 @@
-use Rattle.std.proofs.Common.{take}
-use Rattle.std.specs.List.{All}
-use Rattle.band_regions.specs.Ranges.{IsShiftable}
+use Rattle.band_regions.proofs.Words.{take, All, IsShiftable}
 use Rattle.band_regions.proofs.regions.Region.can_shift.Given as goal
 
 abbrev pub invariant-loop-rect : goal.invariant-loop-rect

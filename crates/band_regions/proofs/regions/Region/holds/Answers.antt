@@ -1,7 +1,4 @@
-use Rattle.std.proofs.Common.{◌≡◌, ◌∙◌, ap, sym, subst, length, arith, rules}
-use Rattle.std.proofs.lemmas.List.Sorted.{IsPartitionPoint-from_clause}
-use Rattle.qws_base.specs.Points.{any_holds}
-use Rattle.band_regions.specs.Ranges.{is_before, IsInForm}
+use Rattle.band_regions.proofs.Words.{◌≡◌, length, sym, ap, ◌∙◌, subst, arith, rules, any_holds, IsInForm, is_before, IsPartitionPoint-from_clause}
 use Rattle.band_regions.proofs.RegionLemmas.{before_parted, none_found, one_found}
 use Rattle.band_regions.proofs.regions.Region.holds.Goals as goal
 

@@ -1,7 +1,6 @@
-use Rattle.std.proofs.Common.{◌∙◌, nat_eq, ap, sym}
-use Rattle.qws_base.specs.Points.{any_holds}
-use Rattle.band_regions.proofs.Questions.{empty_of, empty_length}
+use Rattle.band_regions.proofs.Words.{sym, ap, ◌∙◌, nat_eq, any_holds}
 use Rattle.band_regions.proofs.ListLemmas.{no_more}
+use Rattle.band_regions.proofs.Questions.{empty_of, empty_length}
 use Rattle.band_regions.proofs.regions.Region.is_empty.Goals as goal
 
 pub returns-clause-points : goal.returns-clause-points

@@ -1,5 +1,4 @@
-use Rattle.std.proofs.Common.{◌∙◌, ap, sym}
-use Rattle.qws_base.specs.Points.{any_holds}
+use Rattle.band_regions.proofs.Words.{sym, ap, ◌∙◌, any_holds}
 use Rattle.band_regions.proofs.Uniqueness.{same_lists}
 use Rattle.band_regions.proofs.regions.Region.is_same.Goals as goal
 

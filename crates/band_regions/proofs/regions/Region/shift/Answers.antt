@@ -1,8 +1,4 @@
-use Rattle.std.proofs.Common.{◌≡◌, ◌∙◌, ◌++◌, ◌∷◌, [], ap, sym, map, take, to_z, of_z, w32, arith}
-use Rattle.std.proofs.lemmas.Int.{ints}
-use Rattle.std.proofs.lemmas.List.{take_all, map_more}
-use Rattle.qws_base.specs.Points.{shifted}
-use Rattle.band_regions.specs.Ranges.{shift_of}
+use Rattle.band_regions.proofs.Words.{◌≡◌, [], ◌∷◌, ◌++◌, take, sym, ap, ◌∙◌, arith, to_z, of_z, w32, map, ints, take_all, map_more, shifted, shift_of}
 use Rattle.band_regions.proofs.BandLemmas.{no_rect}
 use Rattle.band_regions.proofs.RegionLemmas.{moved_region}
 use Rattle.band_regions.proofs.regions.Region.shift.Goals as goal

@@ -1,6 +1,4 @@
-use Rattle.std.proofs.Common.{◌≡◌, map, take}
-use Rattle.qws_base.specs.Points.{shifted}
-use Rattle.band_regions.specs.Ranges.{shift_of}
+use Rattle.band_regions.proofs.Words.{◌≡◌, take, map, shifted, shift_of}
 use Rattle.band_regions.proofs.regions.Region.shift.Given as goal
 
 abbrev pub invariant-loop-rect : goal.invariant-loop-rect
