@@ -1,14 +1,9 @@
 pub mod Words
 pub mod ListLemmas
-pub mod SameSpans
 pub mod Uniqueness
+pub mod Corners
 pub mod RowMerges
 pub mod BandLemmas
 pub mod BandEnds
-pub mod BandSweep
-pub mod BandRuns
 pub mod RegionLemmas
-pub mod Questions
-pub mod Hulls
-pub mod Ascending
-pub mod Corners
+pub mod Lemmas

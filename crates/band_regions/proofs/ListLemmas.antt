@@ -1,5 +1,5 @@
 -- What holds of each element, of each two, and membership, by recursion on the list.
-use Rattle.band_regions.proofs.Words.{◌≡◌, ◌<◌, true, false, ◌||◌, ◌⊎◌, List, [], ◌∷◌, ◌++◌, length, refl, sym, ap, ◌∙◌, subst, inl, inr, arith, Bool, nat_eq, zero, suc, cond, map, Each, AllPairs, list_any, filter, All-from_recursion, recursion_from_All, eqb-true, pairs_nil, AllPairs-cons}
+use Rattle.band_regions.proofs.Words.{◌≡◌, ◌<◌, true, false, ◌||◌, ◌⊎◌, List, [], ◌∷◌, ◌++◌, length, refl, sym, ap, ◌∙◌, subst, inl, inr, arith, Bool, nat_eq, zero, suc, cond, map, Each, AllPairs, list_any, filter, All-from_recursion, recursion_from_All, filter_passes, All-filter, list_any_none, eqb-true, cond_both, none_passes, all_pass, pairs_nil, AllPairs-cons, AllPairs-filter}
 
 abbrev pub Pairs : {X : Type 0} → (X → X → Type 0) → List X → Type 0
 Pairs R [] = Unit {0}
@@ -80,9 +80,7 @@ pub same_members : {X : Type 0} (R : X → X → Type 0) → ((x y : X) → R x 
 same_members R once [] [] g k f h = refl
 same_members R once [] (y ∷ ys) g k f h = absurd (h y (inl refl))
 same_members R once (x ∷ xs) [] g k f h = absurd (f x (inl refl))
-same_members {X} R once (x ∷ xs) (y ∷ ys) g k f h =
-    let e : x ≡ y = by_heads (f x (inl refl)) (h y (inl refl)) in
-    ap (λ z. z ∷ xs) e ∙ ap (λ zs. y ∷ zs) (same_members R once xs ys g.1 k.1 (others x y xs ys e g.0 f) (others y x ys xs (sym e) k.0 h))
+same_members {X} R once (x ∷ xs) (y ∷ ys) g k f h = let e : x ≡ y = by_heads (f x (inl refl)) (h y (inl refl)) in ap (λ z. z ∷ xs) e ∙ ap (λ zs. y ∷ zs) (same_members R once xs ys g.1 k.1 (others x y xs ys e g.0 f) (others y x ys xs (sym e) k.0 h))
   where
     others : (a b : X) (ks ls : List X) → a ≡ b → Each (R a) ks → ((z : X) → In z (a ∷ ks) → In z (b ∷ ls)) → (z : X) → In z ks → In z ls
     others a b ks ls e above goes z m = not_first (goes z (inr m))
@@ -98,40 +96,25 @@ same_members {X} R once (x ∷ xs) (y ∷ ys) g k f h =
 
 -- ---- what a test keeps
 
-cond_case : {X : Type 0} (P : List X → Type 0) (b : Bool) (xs ys : List X) → (b ≡ true → P xs) → (b ≡ false → P ys) → P (cond b xs ys)
-cond_case P true xs ys h k = h refl
-cond_case P false xs ys h k = k refl
-
 pub each_filter : {X : Type 0} (P : X → Type 0) (test : X → Bool) (xs : List X) → Each P xs → Each P (filter test xs)
-each_filter P test [] h = tt
-each_filter P test (x ∷ xs) h = cond_case (Each P) (test x) (x ∷ filter test xs) (filter test xs) (λ e. (h.0, each_filter P test xs h.1)) (λ e. each_filter P test xs h.1)
+each_filter P test xs h = recursion_from_All P (filter test xs) (All-filter test P xs (All-from_recursion P xs h))
 
 pub each_passes : {X : Type 0} (test : X → Bool) (xs : List X) → Each (λ x. test x ≡ true) (filter test xs)
-each_passes test [] = tt
-each_passes test (x ∷ xs) = cond_case (Each (λ y. test y ≡ true)) (test x) (x ∷ filter test xs) (filter test xs) (λ e. (e, each_passes test xs)) (λ e. each_passes test xs)
+each_passes test xs = recursion_from_All (λ x. test x ≡ true) (filter test xs) (filter_passes test xs)
 
 pub pairs_filter : {X : Type 0} (R : X → X → Type 0) (test : X → Bool) (xs : List X) → Pairs R xs → Pairs R (filter test xs)
-pairs_filter R test [] h = tt
-pairs_filter R test (x ∷ xs) h = cond_case (Pairs R) (test x) (x ∷ filter test xs) (filter test xs) (λ e. (each_filter (R x) test xs h.0, pairs_filter R test xs h.1)) (λ e. pairs_filter R test xs h.1)
+pairs_filter R test xs h = pairs_of R (filter test xs) (AllPairs-filter R test xs (all_pairs_of R xs h))
 
 pub filter_in : {X : Type 0} (test : X → Bool) (xs : List X) (x : X) → In x xs → test x ≡ true → In x (filter test xs)
 filter_in test [] x m t = absurd m
-filter_in test (y ∷ ys) x (inl e) t = cond_case (In x) (test y) (y ∷ filter test ys) (filter test ys) (λ _. inl e) (λ f. absurd (cc (ap test e)))
-filter_in test (y ∷ ys) x (inr m) t = cond_case (In x) (test y) (y ∷ filter test ys) (filter test ys) (λ _. inr (filter_in test ys x m t)) (λ _. filter_in test ys x m t)
-
-pub in_filter : {X : Type 0} (test : X → Bool) (xs : List X) (x : X) → In x (filter test xs) → In x xs
-in_filter test xs x m = each_in (λ y. In y xs) (filter test xs) x (each_filter (λ y. In y xs) test xs (each_from_in (λ y. In y xs) xs (λ y n. n))) m
-
-pub passes_in : {X : Type 0} (test : X → Bool) (xs : List X) (x : X) → In x (filter test xs) → test x ≡ true
-passes_in test xs x m = each_in (λ y. test y ≡ true) (filter test xs) x (each_passes test xs) m
+filter_in test (y ∷ ys) x (inl e) t = cond_both (test y) (y ∷ filter test ys) (filter test ys) (In x) (λ _. inl e) (λ f. absurd (cc (ap test e)))
+filter_in test (y ∷ ys) x (inr m) t = cond_both (test y) (y ∷ filter test ys) (filter test ys) (In x) (λ _. inr (filter_in test ys x m t)) (λ _. filter_in test ys x m t)
 
 pub filter_none : {X : Type 0} (test : X → Bool) (xs : List X) → Each (λ x. test x ≡ false) xs → filter test xs ≡ []
-filter_none test [] h = refl
-filter_none test (x ∷ xs) h = ap (λ b. cond b (x ∷ filter test xs) (filter test xs)) h.0 ∙ filter_none test xs h.1
+filter_none test xs h = none_passes test xs (All-from_recursion (λ x. test x ≡ false) xs h)
 
 pub filter_all : {X : Type 0} (test : X → Bool) (xs : List X) → Each (λ x. test x ≡ true) xs → filter test xs ≡ xs
-filter_all test [] h = refl
-filter_all test (x ∷ xs) h = ap (λ b. cond b (x ∷ filter test xs) (filter test xs)) h.0 ∙ ap (λ ys. x ∷ ys) (filter_all test xs h.1)
+filter_all test xs h = all_pass test xs (All-from_recursion (λ x. test x ≡ true) xs h)
 
 -- ---- some member passes
 
@@ -149,8 +132,7 @@ any_from_in test (y ∷ ys) x (inr m) t = ap (λ b. test y || b) (any_from_in te
     or_true false = refl
 
 pub any_none : {X : Type 0} (test : X → Bool) (xs : List X) → Each (λ x. test x ≡ false) xs → list_any test xs ≡ false
-any_none test [] h = refl
-any_none test (x ∷ xs) h = ap (λ b. b || list_any test xs) h.0 ∙ any_none test xs h.1
+any_none test xs h = list_any_none test xs (All-from_recursion (λ x. test x ≡ false) xs h)
 
 pub any_same : {X : Type 0} (test other : X → Bool) (xs : List X) → Each (λ x. test x ≡ other x) xs → list_any test xs ≡ list_any other xs
 any_same test other [] h = refl
@@ -172,9 +154,7 @@ cond_map f false x xs ys e = e
 
 pub filter-map : {X : Type 0} (test was : X → Bool) (f : X → X) (xs : List X) → ((x : X) → test (f x) ≡ was x) → filter test (map f xs) ≡ map f (filter was xs)
 filter-map test was f [] same = refl
-filter-map test was f (x ∷ xs) same =
-    ap (λ b. cond b (f x ∷ filter test (map f xs)) (filter test (map f xs))) (same x)
-    ∙ cond_map f (was x) x (filter test (map f xs)) (filter was xs) (filter-map test was f xs same)
+filter-map test was f (x ∷ xs) same = ap (λ b. cond b (f x ∷ filter test (map f xs)) (filter test (map f xs))) (same x) ∙ cond_map f (was x) x (filter test (map f xs)) (filter was xs) (filter-map test was f xs same)
 
 pub any_map : {X : Type 0} (test was : X → Bool) (f : X → X) (xs : List X) → ((x : X) → test (f x) ≡ was x) → list_any test (map f xs) ≡ list_any was xs
 any_map test was f [] same = refl

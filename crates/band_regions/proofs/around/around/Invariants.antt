@@ -1,4 +1,4 @@
-use Rattle.band_regions.proofs.Words.{take, any_holds, HasPixels, IsInRange, IsLeastAround}
+use Rattle.band_regions.proofs.Lemmas.{take, any_holds, HasPixels, IsInRange, IsLeastAround}
 use Rattle.band_regions.proofs.around.around.Given as goal
 
 abbrev pub invariant-loop-i : goal.invariant-loop-i

@@ -1,13 +1,10 @@
-use Rattle.band_regions.proofs.Words.{◌≡◌, arith, to_z, of_z, w32, ints, All-more, Rect}
-use Rattle.band_regions.proofs.BandLemmas.{no_rect, beyond}
+use Rattle.band_regions.proofs.Lemmas.{◌≡◌, arith, to_z, of_z, w32, ints, All-more, Rect, no_rect, beyond}
 use Rattle.band_regions.proofs.bands.band_len.Goals as goal
 
 pub loop-n-preserved : goal.loop-n-preserved
-loop-n-preserved c =
-    let r = c.requires.is_banded.in_range c.loop-n.n no_rect (omega arith) in
+loop-n-preserved c = let r = c.requires.is_banded.in_range c.loop-n.n no_rect (omega arith) in
     (omega arith, All-more (λ (s : Rect). s.y ≡ to_z w32 (of_z w32 c.args.top)) c.args.rects.now c.loop-n.n no_rect (omega arith) c.loop-n.invariant.1 (omega (arith, ints, r.low_y, r.high_y)))
 
 pub returns-else-rects-n-clause-beyond : goal.returns-else-rects-n-clause-beyond
-returns-else-rects-n-clause-beyond c =
-    let r = c.requires.is_banded.in_range c.loop-n.n no_rect (omega arith) in
+returns-else-rects-n-clause-beyond c = let r = c.requires.is_banded.in_range c.loop-n.n no_rect (omega arith) in
     beyond c.args.rects.now c.loop-n.n no_rect c.args.top (omega arith) c.requires.is_banded (c.requires.top c.loop-n.n no_rect (omega arith)) (λ e. c.if-rects-n.false (omega (arith, ints, e, r.low_y, r.high_y)))

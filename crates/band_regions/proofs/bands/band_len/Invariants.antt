@@ -1,4 +1,4 @@
-use Rattle.band_regions.proofs.Words.{◌≡◌, ◌-◌, ◌≤◌, length, take, All}
+use Rattle.band_regions.proofs.Lemmas.{◌≡◌, ◌-◌, ◌≤◌, length, take, All}
 use Rattle.band_regions.proofs.bands.band_len.Given as goal
 
 abbrev pub invariant-loop-n : goal.invariant-loop-n

@@ -1,4 +1,4 @@
-use Rattle.band_regions.proofs.Words.{◌≡◌, ◌-◌, ◌++◌, take, drop, map, taller}
+use Rattle.band_regions.proofs.Lemmas.{◌≡◌, ◌-◌, ◌++◌, take, drop, map, taller}
 use Rattle.band_regions.proofs.bands.extend_down.Given as goal
 
 abbrev pub invariant-loop-i : goal.invariant-loop-i

@@ -1,5 +1,4 @@
-use Rattle.band_regions.proofs.Words.{arith}
-use Rattle.band_regions.proofs.BandLemmas.{no_rect, cast_y, tops, first_len_is}
+use Rattle.band_regions.proofs.Lemmas.{arith, no_rect, cast_y, tops, first_len_is}
 use Rattle.band_regions.proofs.bands.first_len.Goals as goal
 
 pub band_len-requires-clause-top : goal.band_len-requires-clause-top

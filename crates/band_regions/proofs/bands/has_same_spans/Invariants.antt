@@ -1,4 +1,4 @@
-use Rattle.band_regions.proofs.Words.{◌≡◌, take, map, span_of}
+use Rattle.band_regions.proofs.Lemmas.{◌≡◌, take, map, span_of}
 use Rattle.band_regions.proofs.bands.has_same_spans.Given as goal
 
 abbrev pub invariant-loop-i : goal.invariant-loop-i

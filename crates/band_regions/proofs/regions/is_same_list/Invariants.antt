@@ -1,4 +1,4 @@
-use Rattle.band_regions.proofs.Words.{◌≡◌, take}
+use Rattle.band_regions.proofs.Lemmas.{◌≡◌, take}
 use Rattle.band_regions.proofs.regions.is_same_list.Given as goal
 
 abbrev pub invariant-loop-i : goal.invariant-loop-i

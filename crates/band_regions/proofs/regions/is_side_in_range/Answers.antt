@@ -1,5 +1,4 @@
-use Rattle.band_regions.proofs.Words.{◌≡◌, arith, to_z, of_z, w64, pos, ◌+ℤ◌, ints}
-use Rattle.band_regions.proofs.Questions.{side_tests}
+use Rattle.band_regions.proofs.Lemmas.{◌≡◌, arith, to_z, of_z, w64, pos, ◌+ℤ◌, ints, side_tests}
 use Rattle.band_regions.proofs.regions.is_side_in_range.Goals as goal
 
 pub returns-then-first-le32767 : goal.returns-then-first-le32767

@@ -1,5 +1,4 @@
-use Rattle.band_regions.proofs.Words.{◌≡◌, ◌++◌, take, map}
-use Rattle.band_regions.proofs.RowMerges.{leveled}
+use Rattle.band_regions.proofs.Lemmas.{◌≡◌, ◌++◌, take, map, leveled}
 use Rattle.band_regions.proofs.rows.copy_row.Given as goal
 
 abbrev pub invariant-loop-span : goal.invariant-loop-span

@@ -1,5 +1,4 @@
-use Rattle.band_regions.proofs.Words.{◌+◌, ◌&&◌, length, not, has_column}
-use Rattle.band_regions.proofs.RowMerges.{IsSubtracting}
+use Rattle.band_regions.proofs.Lemmas.{◌+◌, ◌&&◌, length, not, has_column, IsSubtracting}
 use Rattle.band_regions.proofs.rows.subtract_row.Given as goal
 
 abbrev pub invariant-loop-first : goal.invariant-loop-first

@@ -1,5 +1,4 @@
-use Rattle.band_regions.proofs.Words.{◌+◌, ◌||◌, length, has_column}
-use Rattle.band_regions.proofs.RowMerges.{IsUniting}
+use Rattle.band_regions.proofs.Lemmas.{◌+◌, ◌||◌, length, has_column, IsUniting}
 use Rattle.band_regions.proofs.rows.unite_rows.Given as goal
 
 abbrev pub invariant-loop-first : goal.invariant-loop-first

@@ -1,4 +1,4 @@
-use Rattle.band_regions.proofs.BandRuns.{IsRunTo}
+use Rattle.band_regions.proofs.Lemmas.{IsRunTo}
 use Rattle.band_regions.proofs.runs.band_run.Given as goal
 
 abbrev pub invariant-loop-n : goal.invariant-loop-n

@@ -1,4 +1,4 @@
-use Rattle.band_regions.proofs.Words.{◌-◌, ◌≤◌, length, take, IsSweptTo}
+use Rattle.band_regions.proofs.Lemmas.{◌-◌, ◌≤◌, length, take, IsSweptTo}
 use Rattle.band_regions.proofs.runs.canonical_len.Given as goal
 
 abbrev pub invariant-loop-end : goal.invariant-loop-end

@@ -1,6 +1,4 @@
-use Rattle.band_regions.proofs.Words.{◌≡◌, length, arith, to_z, of_z, w32, ints, clamps}
-use Rattle.band_regions.proofs.BandSweep.{swept_none, reach_less, swept_step, front_is, end_is, points_added, more_left, swept_all}
-use Rattle.band_regions.proofs.ListLemmas.{no_more}
+use Rattle.band_regions.proofs.Lemmas.{◌≡◌, length, take, drop, sym, ap, ◌∙◌, arith, to_z, of_z, w32, ints, clamps, take_at, drop_at, list_any-append, holds, any_holds, swept_none, swept_step, more_left, swept_all, no_more}
 use Rattle.band_regions.proofs.sweeps.sweep.Goals as goal
 use Rattle.band_regions.proofs.sweeps.sweep.Goals.{then-not-is_empty, else-not-is_empty+then-not-is_empty-2}
 
@@ -24,16 +22,12 @@ pub distance-height-requires-clause-high : goal.distance-height-requires-clause-
 distance-height-requires-clause-high c = omega (arith, ints, clamps, c.next_row.ensures.within, c.min-next.ensures.value)
 
 pub close_band-last-requires-clause-swept : goal.close_band-last-requires-clause-swept
-close_band-last-requires-clause-swept c =
-    let added = c.in_ok-combine.ensures in
-    let n : c.len-start.result ≡ length c.loop-first.rects.items = omega (arith, c.loop-first.rects.ok.0, c.len-start.ensures) in
-    rw (front_is c.loop-first.rects.items c.combine.new.rects.items added.band c.len-start.result n added.appended) c.loop-first.invariant.swept.swept
+close_band-last-requires-clause-swept c = let added = c.in_ok-combine.ensures in let n : c.len-start.result ≡ length c.loop-first.rects.items = omega (arith, c.loop-first.rects.ok.0, c.len-start.ensures) in
+    rw (ap (take c.len-start.result) added.appended ∙ take_at c.loop-first.rects.items added.band c.len-start.result (sym n)) c.loop-first.invariant.swept.swept
 
 pub close_band-last-requires-clause-is_band : goal.close_band-last-requires-clause-is_band
-close_band-last-requires-clause-is_band c =
-    let added = c.in_ok-combine.ensures in
-    let n : c.len-start.result ≡ length c.loop-first.rects.items = omega (arith, c.loop-first.rects.ok.0, c.len-start.ensures) in
-    rw (end_is c.loop-first.rects.items c.combine.new.rects.items added.band c.len-start.result n added.appended) added.is_band
+close_band-last-requires-clause-is_band c = let added = c.in_ok-combine.ensures in let n : c.len-start.result ≡ length c.loop-first.rects.items = omega (arith, c.loop-first.rects.ok.0, c.len-start.ensures) in
+    rw (ap (drop c.len-start.result) added.appended ∙ drop_at c.loop-first.rects.items added.band c.len-start.result (sym n)) added.is_band
 
 pub close_band-last-requires-clause-some : goal.close_band-last-requires-clause-some
 close_band-last-requires-clause-some c = omega (arith, ints, clamps, c.next_row.ensures.after, c.next_row-in-loop-first.ensures.after, c.min-next.ensures.value, c.distance-height.ensures)
@@ -42,37 +36,30 @@ pub close_band-last-requires-clause-high : goal.close_band-last-requires-clause-
 close_band-last-requires-clause-high c = omega (arith, ints, clamps, c.next_row.ensures.within, c.min-next.ensures.value, c.distance-height.ensures)
 
 pub past_row-requires-clause-no_end_before : goal.past_row-requires-clause-no_end_before
-past_row-requires-clause-no_end_before c = reach_less (to_z w32 (of_z w32 c.min-next.result)) c.next_row.result c.loop-first.first.now (omega (arith, ints, clamps, c.min-next.ensures.value)) c.next_row.ensures.no_end_before
+past_row-requires-clause-no_end_before c = λ k d m. omega (arith, ints, clamps, c.min-next.ensures.value, c.next_row.ensures.no_end_before k d m)
 
 pub past_row-requires-in-loop-first-clause-no_end_before : goal.past_row-requires-in-loop-first-clause-no_end_before
-past_row-requires-in-loop-first-clause-no_end_before c = reach_less (to_z w32 (of_z w32 c.min-next.result)) c.next_row-in-loop-first.result c.loop-first.second.now (omega (arith, ints, clamps, c.min-next.ensures.value)) c.next_row-in-loop-first.ensures.no_end_before
+past_row-requires-in-loop-first-clause-no_end_before c = λ k d m. omega (arith, ints, clamps, c.min-next.ensures.value, c.next_row-in-loop-first.ensures.no_end_before k d m)
 
 pub loop-first-smaller : goal.loop-first-smaller
 loop-first-smaller c = omega (arith, ints, clamps, c.next_row.ensures.after, c.next_row-in-loop-first.ensures.after, c.next_row.ensures.within, c.min-next.ensures.value)
 
 pub loop-first-preserved : goal.loop-first-preserved
-loop-first-preserved c =
-    let next : to_z w32 (of_z w32 c.min-next.result) ≡ c.min-next.result = omega (arith, ints) in
-    let added = c.in_ok-combine.ensures in
-    rw next (record {
-      swept = swept_step c.args.operation c.args.first.now c.args.second.now (to_z w32 c.loop-first.y-bits) c.min-next.result c.distance-height.result c.loop-first.last c.close_band-last.result
-          c.loop-first.first.now c.loop-first.second.now c.loop-first.rects.items added.band c.close_band-last.new.rects.items
-          c.row_at-first_row.result.now c.row_at-second_row.result.now c.past_row.result.0.now c.past_row-in-loop-first.result.0.now
-          c.loop-first.invariant.swept
-          (omega (arith, ints, clamps, c.next_row.ensures.after, c.next_row-in-loop-first.ensures.after, c.min-next.ensures.value))
-          (omega (arith, ints, clamps, c.next_row.ensures.within, c.min-next.ensures.value))
-          (rw next at c.distance-height.ensures)
-          (λ p l m. c.next_row.ensures.uniform p l (omega (arith, ints, clamps, m, c.min-next.ensures.value)))
-          (λ p l m. c.next_row-in-loop-first.ensures.uniform p l (omega (arith, ints, clamps, m, c.min-next.ensures.value)))
-          c.row_at-first_row.ensures.columns c.row_at-second_row.ensures.columns
-          added.is_band added.has
-          c.close_band-last.ensures.swept (points_added c.loop-first.rects.items c.combine.new.rects.items added.band c.close_band-last.new.rects.items added.appended c.close_band-last.ensures.points)
-          (rw next at c.past_row.ensures.rest) (rw next at c.past_row-in-loop-first.ensures.rest);
-      first_count = c.past_row.ensures.count;
-      second_count = c.past_row-in-loop-first.ensures.count;
-    })
+loop-first-preserved c = let next : to_z w32 (of_z w32 c.min-next.result) ≡ c.min-next.result = omega (arith, ints) in let added = c.in_ok-combine.ensures in rw next (record {
+  swept = swept_step c.args.operation c.args.first.now c.args.second.now (to_z w32 c.loop-first.y-bits) c.min-next.result c.distance-height.result c.loop-first.last c.close_band-last.result
+      c.loop-first.first.now c.loop-first.second.now c.loop-first.rects.items added.band c.close_band-last.new.rects.items
+      c.row_at-first_row.result.now c.row_at-second_row.result.now c.past_row.result.0.now c.past_row-in-loop-first.result.0.now
+      c.loop-first.invariant.swept (omega (arith, ints, clamps, c.next_row.ensures.after, c.next_row-in-loop-first.ensures.after, c.min-next.ensures.value)) (omega (arith, ints, clamps, c.next_row.ensures.within, c.min-next.ensures.value))
+      (rw next at c.distance-height.ensures) (λ p l m. c.next_row.ensures.uniform p l (omega (arith, ints, clamps, m, c.min-next.ensures.value)))
+      (λ p l m. c.next_row-in-loop-first.ensures.uniform p l (omega (arith, ints, clamps, m, c.min-next.ensures.value)))
+      c.row_at-first_row.ensures.columns c.row_at-second_row.ensures.columns
+      added.is_band added.has
+      c.close_band-last.ensures.swept (λ p. c.close_band-last.ensures.points p ∙ ap (λ xs. any_holds xs p) added.appended ∙ list_any-append (λ r. holds r p) c.loop-first.rects.items added.band)
+      (rw next at c.past_row.ensures.rest) (rw next at c.past_row-in-loop-first.ensures.rest);
+  first_count = c.past_row.ensures.count;
+  second_count = c.past_row-in-loop-first.ensures.count;
+})
 
 pub returns-clause-points : goal.returns-clause-points
-returns-clause-points c =
-    swept_all c.args.operation c.args.first.now c.args.second.now (to_z w32 c.loop-first.y-bits) c.loop-first.last c.loop-first.first.now c.loop-first.second.now c.loop-first.rects.items c.loop-first.invariant.swept
+returns-clause-points c = swept_all c.args.operation c.args.first.now c.args.second.now (to_z w32 c.loop-first.y-bits) c.loop-first.last c.loop-first.first.now c.loop-first.second.now c.loop-first.rects.items c.loop-first.invariant.swept
     (no_more c.loop-first.first.now c.if-not-is_empty.ensures) (no_more c.loop-first.second.now c.if-not-is_empty-2.ensures)

@@ -1,4 +1,4 @@
-use Rattle.band_regions.proofs.Words.{take, All, IsShiftable}
+use Rattle.band_regions.proofs.Lemmas.{take, All, IsShiftable}
 use Rattle.band_regions.proofs.regions.Region.can_shift.Given as goal
 
 abbrev pub invariant-loop-rect : goal.invariant-loop-rect

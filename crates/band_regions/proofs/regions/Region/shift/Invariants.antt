@@ -1,4 +1,4 @@
-use Rattle.band_regions.proofs.Words.{◌≡◌, take, map, shifted, shift_of}
+use Rattle.band_regions.proofs.Lemmas.{◌≡◌, take, map, shifted, shift_of}
 use Rattle.band_regions.proofs.regions.Region.shift.Given as goal
 
 abbrev pub invariant-loop-rect : goal.invariant-loop-rect
