@@ -81,7 +81,7 @@ fn append(all: &mut Vec<u32>, rows: &[u32]) -> Result<(), AllocError>
 #[derive(Debug, Drop)]
 pub struct Font {
     height: u32,
-    widths: IndexMap<u32, u32>,
+    widths: IndexMap<u32, u8>,
     rows: Vec<u32>,
 }
 
@@ -136,7 +136,7 @@ impl Font {
         let start = index * height;
         Some(Glyph {
             code,
-            width: *width,
+            width: u32::from(*width),
             rows: &self.rows[start..start + height],
         })
     }
@@ -182,7 +182,7 @@ impl Font {
         if append(&mut self.rows, rows).is_err() {
             return Err(GlyphStop::OutOfMemory);
         }
-        match self.widths.insert(code, width) {
+        match self.widths.insert(code, width as u8) {
             Ok(_) => Ok(()),
             Err(_) => {
                 self.rows.truncate(kept);
