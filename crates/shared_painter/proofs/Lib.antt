@@ -1,5 +1,6 @@
 pub mod Cutting
 pub mod Painting
+pub mod Even
 pub mod Parts
 pub mod Carrying
 pub mod Ending

@@ -1,9 +1,11 @@
 -- What painting pixels adds to the log of a turn.
 use Rattle.std.specs.Prelude.{◌≡◌, ℕ, ◌+◌, ◌<◌, ◌≤◌, true, List, [], ◌∷◌, ◌++◌, map, length}
+use Rattle.std.specs.List.{filter, range_with_len}
 use Rattle.qws_base.specs.Points.{holds, point_of, pixel_count}
 use Rattle.qws_base.specs.RectPixels.{rects_pixels}
 use Rattle.qws_base.specs.declared.points.Rect.{Rect}
-use Rattle.qws_base.specs.Scenes.{Setting, ink_on}
+use Rattle.qws_base.specs.Scenes.{Setting, ink_on, has_ink}
+use Rattle.qws_base.specs.declared.inks.Ink.{Ink}
 use Rattle.qws_base.specs.Sheets.{Sheet}
 use Rattle.qws_base.specs.declared.points.Point.{Point}
 use Rattle.qws_base.specs.declared.windows.Cursor.{Cursor}
@@ -34,6 +36,16 @@ pub record PaintsPixels (origin : Point) (sheet : Sheet) (ps : List ℕ) (p q : 
   pub long : length values ≡ length ps
   pub log : (words : ℕ → ℕ) → LookedIn (looked_in q.mode) words
       → log_in q.mode ≡ log_in p.mode ++ zipped (items_at p.setting (cursor_from words) origin sheet) ps values
+
+-- the sheet has the ink on so many pixels from the first on
+abbrev pub HasInk : ℕ → Point → Sheet → Ink → ℕ → ℕ → Type 0
+HasInk width origin sheet ink first n = (k : ℕ) → first ≤ k → k < first + n → ink ≡ ink_on width origin sheet k
+
+-- Of each sheet that has the ink on so many pixels from the first on, the log has grown by the items on those pixels, and the
+-- count is that of those with ink.
+pub record PaintsEvenly (ink : Ink) (first n : ℕ) (p q : Client) (count : ℕ) : Type 0 where
+  pub log : (origin : Point) (sheet : Sheet) → HasInk p.setting.size.w origin sheet ink first n → PaintsPixels origin sheet (range_with_len first n) p q
+  pub counted : (origin : Point) (sheet : Sheet) → HasInk p.setting.size.w origin sheet ink first n → count ≡ length (filter (has_ink p.setting.size.w origin sheet) (range_with_len first n))
 
 -- the client owns so many pixels from the first on
 abbrev pub OwnsSpan : Client → ℕ → ℕ → Type 0

@@ -1,20 +1,21 @@
 //! Painting a picture row by row.
-ghost use Rattle.std.specs.Prelude.{◌≡◌, ◌+◌, ◌*◌, ◌%◌, ◌<◌, ◌≤◌, All, length, if◌then◌else◌};
+ghost use Rattle.std.specs.Prelude.{◌≡◌, ℕ, ◌+◌, ◌*◌, ◌%◌, ◌<◌, ◌≤◌, All, length, if◌then◌else◌, IfSome, None};
 ghost use Rattle.std.specs.List.{filter, range_with_len};
 ghost use Rattle.qws_base.specs.Inks.{is_skip};
 ghost use Rattle.qws_base.specs.Points.{IsPlaced, IsOnLargest, point_of};
 ghost use Rattle.qws_base.specs.Scenes.{has_ink};
 ghost use Rattle.turn_logs.specs.Tables.{IsOnScreen};
 ghost use Rattle.display_lock.specs.Turns.{IsOpen, SameTurn, client_in};
-ghost use Rattle.sw_cursor.specs.Covers.{PaintsOn, IsCover};
+ghost use Rattle.qws_base.specs.Shown.{cell_on};
+ghost use Rattle.sw_cursor.specs.Covers.{PaintsOn, IsCover, bare_cursor};
 ghost use Rattle.qws_base.specs.RectPixels.{rect_pixels};
-ghost use Rattle.shared_painter.specs.Painted.{PaintsPixels, OwnsSpan, OwnsRect, cut_pixels};
+ghost use Rattle.shared_painter.specs.Painted.{PaintsPixels, PaintsEvenly, OwnsSpan, OwnsRect, cut_pixels};
 ghost use Rattle.shared_painter.specs.Cuts.{cut_rect};
 
 use crate::cuts::cut;
 use display_lock::PaintTurn;
 use qws_base::{Ink, Picture, Point, Rect, Size};
-use sw_cursor::{Cover, put_covered};
+use sw_cursor::{Cover, put_clear, put_covered};
 
 // 1 for an ink that isn't Skip.
 #[inline(always)]
@@ -25,6 +26,42 @@ fn inked(ink: &Ink) -> u64
         Ink::Skip => 0,
         _ => 1,
     }
+}
+
+// The ink that all places have; none where two differ.
+#[inline(always)]
+fn only_ink(inks: &[Ink]) -> Option<Ink>
+    ensures { IfSome result (λ ink. All (λ other. other ≡ ink) inks.now) }
+{
+    let first = *inks.first()?;
+    if inks.iter().all(|ink| *ink == first) {
+        Some(first)
+    } else {
+        None
+    }
+}
+
+// Paints so many pixels with one ink where no cell of the cursor lies, and counts those with ink.
+#[inline(always)]
+fn paint_even(turn: &mut PaintTurn, cover: &Cover, first: u32, len: u32, ink: Ink) -> u64
+    requires open { IsOpen turn.old }
+    requires cover { IsCover (client_in turn.old) cover.now }
+    requires clear { (k : ℕ) → first ≤ k → k < first + len → cell_on (bare_cursor cover.now) (point_of (client_in turn.old).setting.size.w k) ≡ None }
+    requires pixels { first + len ≤ 307200 }
+    requires owns { OwnsSpan (client_in turn.old) first len }
+    ensures same { SameTurn turn.old turn.new }
+    ensures open { IsOpen turn.new }
+    ensures goes { PaintsOn (client_in turn.old) (client_in turn.new) }
+    ensures cover { IsCover (client_in turn.new) cover.now }
+    ensures log { PaintsEvenly ink first len (client_in turn.old) (client_in turn.new) result }
+    ensures few { result ≤ len }
+{
+    let mut count = 0;
+    for j in 0..len {
+        count += inked(&ink);
+        put_clear(turn, cover, first + j, ink);
+    }
+    count
 }
 
 // Paints pixels of a row, as many as there is room for inks, and counts those with ink. `at` is the point of the first.
@@ -57,6 +94,11 @@ fn paint_row<P: Picture>(
     ensures room { length inks.new ≡ length inks.old }
 {
     picture.row(at.y - origin.y, at.x - origin.x, inks);
+    if cover.misses(at.y) {
+        if let Some(ink) = only_ink(inks) {
+            return paint_even(turn, cover, first, inks.len() as u32, ink);
+        }
+    }
     let mut count = 0;
     for j in 0..inks.len() {
         count += inked(&inks[j]);

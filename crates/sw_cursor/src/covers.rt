@@ -1,5 +1,6 @@
 //! What a painter knows of the cursor in its turn.
-ghost use Rattle.std.specs.Prelude.{◌≡◌, ◌<◌, ◌≤◌, IfSome, slice_index};
+ghost use Rattle.std.specs.Prelude.{◌≡◌, ◌<◌, ◌≤◌, IfSome, slice_index, ◌&&◌, not, pos};
+ghost use Rattle.qws_base.specs.Points.{spans};
 ghost use Rattle.qws_base.specs.Shown.{cell_on};
 ghost use Rattle.fb_words.specs.Clips.{Sees};
 ghost use Rattle.fb_words.specs.Rights.{cursor_at};
@@ -48,6 +49,14 @@ impl Cover {
             h: (shape / 65536) as u32,
             shown: place / 4294967296 == 1,
         }
+    }
+
+    /// Whether no shown cell lies in a row of the screen, whatever the column.
+    #[inline(always)]
+    pub fn misses(&self, y: i32) -> bool
+        ensures { result ≡ not (self.now.shown && spans (pos self.now.y) self.now.h y) }
+    {
+        !self.shown || offset_in(self.y, self.h, y).is_none()
     }
 
     // The column and the row of the shown cell that lies on a point.

@@ -12,5 +12,5 @@ pub use cells::cell_on;
 pub use covers::Cover;
 pub use drops::drop_at;
 pub use lifts::lift;
-pub use paints::{put_covered, put_under};
+pub use paints::{put_clear, put_covered, put_under};
 pub use shapes::{Shape, ShapeStop};

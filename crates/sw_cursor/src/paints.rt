@@ -1,11 +1,12 @@
 //! Painting under the cursor.
-ghost use Rattle.std.specs.Prelude.{◌≡◌, ◌<◌, ◌^◌};
+ghost use Rattle.std.specs.Prelude.{◌≡◌, ◌<◌, ◌^◌, None};
 ghost use Rattle.qws_base.specs.Points.{point_of};
+ghost use Rattle.qws_base.specs.Shown.{cell_on};
 ghost use Rattle.region_table.specs.Numbers.{pixel_word, saved_word};
 ghost use Rattle.fb_words.specs.Clips.{KeepsClips};
 ghost use Rattle.fb_words.specs.Rights.{Owns};
 ghost use Rattle.display_lock.specs.Turns.{IsOpen, SameTurn, client_in};
-ghost use Rattle.sw_cursor.specs.Covers.{PaintsOn, IsCover, PutsBare, PutsOver, PutsInk};
+ghost use Rattle.sw_cursor.specs.Covers.{PaintsOn, IsCover, PutsBare, PutsOver, PutsInk, bare_cursor};
 
 use crate::cells::scene_colour;
 use crate::covers::Cover;
@@ -14,6 +15,7 @@ use qws_base::{Depth, Ink, Point, after_at};
 use region_table::{cell_at, pixel_at, saved_at};
 
 // Paints a pixel on which no cell lies.
+#[inline(always)]
 fn put_bare(turn: &mut PaintTurn, depth: Depth, p: u32, ink: Ink)
     requires open { IsOpen turn.old }
     requires depth { depth ≡ (client_in turn.old).setting.depth }
@@ -77,6 +79,27 @@ pub fn put_covered(turn: &mut PaintTurn, cover: &Cover, at: Point, p: u32, ink: 
         Some(cell) => put_over(turn, cover.depth, p, cell, ink),
         None => put_bare(turn, cover.depth, p, ink),
     }
+}
+
+/// Paints a pixel that the turn owns, and on which the cover has no cell. With Skip nothing is read or written; else the pixel
+/// is read, and the ink over what was found is put there. It looks at no table word, and takes no memory.
+#[inline(always)]
+pub fn put_clear(turn: &mut PaintTurn, cover: &Cover, p: u32, ink: Ink)
+    requires open { IsOpen turn.old }
+    requires cover { IsCover (client_in turn.old) cover.now }
+    requires clear { cell_on (bare_cursor cover.now) (point_of (client_in turn.old).setting.size.w p) ≡ None }
+    requires pixel { p < 307200 }
+    requires owns { Owns (client_in turn.old) (pixel_word p) }
+    ensures same { SameTurn turn.old turn.new }
+    ensures open { IsOpen turn.new }
+    ensures goes { PaintsOn (client_in turn.old) (client_in turn.new) }
+    ensures cover { IsCover (client_in turn.new) cover.now }
+    ensures log { PutsInk (client_in turn.old) (client_in turn.new) p ink }
+{
+    if let Ink::Skip = ink {
+        return;
+    }
+    put_bare(turn, cover.depth, p, ink);
 }
 
 /// Paints a pixel that the turn owns, under the cursor. It looks at the cursor's words, and at no other table words.
