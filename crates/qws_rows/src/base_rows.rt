@@ -16,7 +16,7 @@ fn blending(rt: HostRuntime) -> Result<(), Fail> {
         (0, black, 0),
         (255, black, 0xffffff),
     ] {
-        assert_eq!(rt; after(Ink::Blend { c: white, a }, old).value(), want);
+        assert!(rt; after(Ink::Blend { c: white, a }, old).value() == want);
     }
     Ok(())
 }
@@ -25,9 +25,9 @@ fn blending(rt: HostRuntime) -> Result<(), Fail> {
 fn copies_are_equal(rt: HostRuntime) -> Result<(), Fail> {
     let alloc = rt.alloc();
     let command = Command::Create { layer: 0 };
-    assert_eq!(rt; command.copy(alloc).ok(), Some(command));
+    assert!(rt; command.copy(alloc).ok() == Some(command));
     let reply = Reply::Created { slot: 0 };
-    assert_eq!(rt; reply.copy(alloc).ok(), Some(reply));
+    assert!(rt; reply.copy(alloc).ok() == Some(reply));
     let rect = Rect {
         x: 1,
         y: 2,
@@ -38,18 +38,18 @@ fn copies_are_equal(rt: HostRuntime) -> Result<(), Fail> {
         .copy(alloc)
         .ok()
         .ok_or("memory")?;
-    assert_eq!(rt; rects.as_slice(), [rect].as_slice());
+    assert!(rt; rects.as_slice() == [rect].as_slice());
     let bytes = Bytes::of(vec![in alloc; 7]?)
         .copy(alloc)
         .ok()
         .ok_or("memory")?;
-    assert_eq!(rt; bytes.as_slice(), [7].as_slice());
+    assert!(rt; bytes.as_slice() == [7].as_slice());
     let words = Words::of(vec![in alloc; 8]?)
         .copy(alloc)
         .ok()
         .ok_or("memory")?;
-    assert_eq!(rt; words.as_slice(), [8].as_slice());
-    assert_ne!(rt; words, Words::of(vec![in alloc; 8, 8]?));
+    assert!(rt; words.as_slice() == [8].as_slice());
+    assert!(rt; words != Words::of(vec![in alloc; 8, 8]?));
     Ok(())
 }
 
@@ -69,25 +69,25 @@ fn copies_of_records_are_equal(rt: HostRuntime) -> Result<(), Fail> {
         origin: Point { x: 3, y: -4 },
         rects: Rects::of(vec![in alloc; rect]?),
     };
-    assert_eq!(rt; window.copy(alloc).ok(), Some(window));
+    assert!(rt; window.copy(alloc).ok() == Some(window));
     let cursor = Cursor::hidden(alloc);
     assert!(rt; cursor.is_shape() && !cursor.shown);
-    assert_eq!(rt; cursor.copy(alloc).ok(), Some(cursor));
+    assert!(rt; cursor.copy(alloc).ok() == Some(cursor));
     let entry = JournalEntry {
         number: 1,
         client: 2,
         command: Command::Take,
         reply: Reply::Done,
     };
-    assert_eq!(rt; entry.copy(alloc).ok(), Some(entry));
+    assert!(rt; entry.copy(alloc).ok() == Some(entry));
     Ok(())
 }
 
 #[test]
 fn channels_of_a_colour(rt: HostRuntime) {
     let orange = Rgb::of_channels(255, 128, 0);
-    assert_eq!(rt; orange.value(), 0xff8000);
-    assert_eq!(rt; orange.channels(), [255, 128, 0]);
+    assert!(rt; orange.value() == 0xff8000);
+    assert!(rt; orange.channels() == [255, 128, 0]);
 }
 
 #[test]
@@ -103,10 +103,10 @@ fn a_book_and_a_row(rt: HostRuntime) -> Result<(), Fail> {
     assert!(rt; !book.is_full());
     book.push(entry);
     assert!(rt; book.is_full());
-    assert_eq!(rt; book.client(), 3);
-    assert_eq!(rt; book.entries(), [entry].as_slice());
+    assert!(rt; book.client() == 3);
+    assert!(rt; book.entries() == [entry].as_slice());
     let mut row = RowBuf::new(alloc).ok().ok_or("memory")?;
-    assert_eq!(rt; row.inks().len(), 640);
+    assert!(rt; row.inks().len() == 640);
     Ok(())
 }
 
@@ -118,7 +118,7 @@ fn read_std(alloc: Global, bytes: &[u8]) -> Result<Vec<u8>, Fail> {
 #[test]
 fn a_reader_of_std(rt: HostRuntime) -> Result<(), Fail> {
     let bytes = read_std(rt.alloc(), b"screen 2 1 102030\n")?;
-    assert_eq!(rt; bytes.as_slice(), b"screen 2 1 102030\n".as_slice());
+    assert!(rt; bytes.as_slice() == b"screen 2 1 102030\n".as_slice());
     Ok(())
 }
 
@@ -128,7 +128,7 @@ fn a_writer_of_std(rt: HostRuntime) -> Result<(), Fail> {
     let mut sink = StdSink::new(&mut written);
     assert!(rt; write_all(&mut sink, b"P6\n").is_ok());
     let _ = sink;
-    assert_eq!(rt; written.as_slice(), b"P6\n".as_slice());
+    assert!(rt; written.as_slice() == b"P6\n".as_slice());
     Ok(())
 }
 
@@ -136,18 +136,12 @@ fn a_writer_of_std(rt: HostRuntime) -> Result<(), Fail> {
 fn what_stops_a_reader(rt: HostRuntime) -> Result<(), Fail> {
     let alloc = rt.alloc();
     let mut clean = CleanSource::new(b"screen".to_vec(alloc)?);
-    assert_eq!(rt;
-        read_all(alloc, &mut clean, 5).err(),
-        Some(ReadStop::TooLong)
-    );
+    assert!(rt; read_all(alloc, &mut clean, 5).err() == Some(ReadStop::TooLong));
     let mut failing = MemSource::new(b"screen".to_vec(alloc)?, 4, vec![in alloc; 2]?);
-    assert_eq!(rt;
-        read_all(alloc, &mut failing, 6).err(),
-        Some(ReadStop::ReadFault)
-    );
+    assert!(rt; read_all(alloc, &mut failing, 6).err() == Some(ReadStop::ReadFault));
     let mut pieces = MemSource::new(b"screen".to_vec(alloc)?, 4, Vec::new(alloc));
     let bytes = read_all(alloc, &mut pieces, 6).ok().ok_or("a stop")?;
-    assert_eq!(rt; bytes.as_slice(), b"screen".as_slice());
+    assert!(rt; bytes.as_slice() == b"screen".as_slice());
     Ok(())
 }
 
@@ -158,10 +152,10 @@ fn what_stops_a_writer(rt: HostRuntime) -> Result<(), Fail> {
     let mut sink = MemSink::new(alloc, 100, 5, vec![in alloc; 3]?)
         .ok()
         .ok_or("memory")?;
-    assert_eq!(rt; write_all(&mut sink, row), Err(WriteFault));
-    assert_eq!(rt; sink.bytes(), b"P6\n2 1\n255".as_slice());
+    assert!(rt; write_all(&mut sink, row) == Err(WriteFault));
+    assert!(rt; sink.bytes() == b"P6\n2 1\n255".as_slice());
     let mut clean = CleanSink::new();
-    assert_eq!(rt; clean.write(row).ok(), Some(17));
-    assert_eq!(rt; write_all(&mut clean, row), Ok(()));
+    assert!(rt; clean.write(row).ok() == Some(17));
+    assert!(rt; write_all(&mut clean, row) == Ok(()));
     Ok(())
 }

@@ -156,8 +156,11 @@ fn inks_at_both_depths(rt: HostRuntime) -> Result<(), Stop> {
         (Ink::Blend { c: blue, a: 255 }, 0x0000ff, 0x001f),
     ];
     for (ink, full, narrow) in cases {
-        assert_eq!(rt; inked(rt.alloc(), Depth::Full, ink)?, full);
-        assert_eq!(rt; inked(rt.alloc(), Depth::Narrow, ink)?, narrow);
+        assert!(rt; inked(rt.alloc(), Depth::Full, ink)? == full, "{full}");
+        assert!(rt;
+            inked(rt.alloc(), Depth::Narrow, ink)? == narrow,
+            "{narrow}"
+        );
     }
     Ok(())
 }
@@ -166,38 +169,32 @@ fn inks_at_both_depths(rt: HostRuntime) -> Result<(), Stop> {
 fn a_narrow_screen(rt: HostRuntime) -> Result<(), Stop> {
     let alloc = rt.alloc();
     let mut canvas = canvas(alloc, 2, 1, Depth::Narrow, 0x123456)?;
-    assert_eq!(rt; canvas.depth(), Depth::Narrow);
+    assert!(rt; canvas.depth() == Depth::Narrow);
     let windows = vec![in alloc; window(alloc, 0, 0, 2)?]?;
     let copy = Ink::Copy {
         c: colour(0xff8000)?,
     };
     let painted = fill(&mut canvas, &windows, 0, true, copy)?;
-    assert_eq!(rt; painted, PaintReply::Painted { pixels: 1 });
-    assert_eq!(rt;
-        bare(alloc, &canvas)?.as_slice(),
-        [0x103452, 0xff8200].as_slice()
-    );
+    assert!(rt; painted == PaintReply::Painted { pixels: 1 });
+    assert!(rt; bare(alloc, &canvas)?.as_slice() == [0x103452, 0xff8200].as_slice());
     let blend = Ink::Blend {
         c: colour(0x0000ff)?,
         a: 128,
     };
     fill(&mut canvas, &windows, 0, true, blend)?;
-    assert_eq!(rt;
-        bare(alloc, &canvas)?.as_slice(),
-        [0x103452, 0x7b4184].as_slice()
-    );
+    assert!(rt; bare(alloc, &canvas)?.as_slice() == [0x103452, 0x7b4184].as_slice());
     Ok(())
 }
 
 #[test]
 fn one_pixel_is_laid(rt: HostRuntime) -> Result<(), Stop> {
     let mut canvas = canvas(rt.alloc(), 3, 2, Depth::Full, 0)?;
-    assert_eq!(rt; (canvas.size().w(), canvas.size().h()), (3, 2));
+    assert!(rt; (canvas.size().w(), canvas.size().h()) == (3, 2));
     assert!(rt; canvas.has(4) && !canvas.has(6));
     canvas.lay(4, Ink::Copy { c: colour(7)? });
     let black = colour(0)?;
     let laid = [black, black, black, black, colour(7)?, black];
-    assert_eq!(rt; canvas.pixels(), laid.as_slice());
+    assert!(rt; canvas.pixels() == laid.as_slice());
     Ok(())
 }
 
@@ -206,35 +203,22 @@ fn two_windows_over_one_pixel(rt: HostRuntime) -> Result<(), Stop> {
     let alloc = rt.alloc();
     let mut canvas = canvas(alloc, 2, 1, Depth::Full, 0)?;
     let windows = vec![in alloc; window(alloc, 1, 0, 1)?, window(alloc, 0, 0, 2)?]?;
-    assert_eq!(rt; owner_of(&windows, Point { x: 0, y: 0 }), Some(1));
-    assert_eq!(rt; owner_of(&windows, Point { x: 1, y: 0 }), Some(0));
-    assert_eq!(rt; owner_of(&windows, Point { x: 2, y: 0 }), None);
+    assert!(rt; owner_of(&windows, Point { x: 0, y: 0 }) == Some(1));
+    assert!(rt; owner_of(&windows, Point { x: 1, y: 0 }) == Some(0));
+    assert!(rt; owner_of(&windows, Point { x: 2, y: 0 }) == None);
     let behind = Ink::Copy {
         c: colour(0x0000ff)?,
     };
     let front = Ink::Copy {
         c: colour(0x00ff00)?,
     };
-    assert_eq!(rt;
-        fill(&mut canvas, &windows, 0, false, behind)?,
-        PaintReply::Painted { pixels: 0 }
+    assert!(rt;
+        fill(&mut canvas, &windows, 0, false, behind)? == PaintReply::Painted { pixels: 0 }
     );
-    assert_eq!(rt;
-        fill(&mut canvas, &windows, 0, true, behind)?,
-        PaintReply::Painted { pixels: 1 }
-    );
-    assert_eq!(rt;
-        fill(&mut canvas, &windows, 1, false, front)?,
-        PaintReply::Painted { pixels: 1 }
-    );
-    assert_eq!(rt;
-        fill(&mut canvas, &windows, 2, false, front)?,
-        PaintReply::Gone
-    );
-    assert_eq!(rt;
-        bare(alloc, &canvas)?.as_slice(),
-        [0x00ff00, 0x0000ff].as_slice()
-    );
+    assert!(rt; fill(&mut canvas, &windows, 0, true, behind)? == PaintReply::Painted { pixels: 1 });
+    assert!(rt; fill(&mut canvas, &windows, 1, false, front)? == PaintReply::Painted { pixels: 1 });
+    assert!(rt; fill(&mut canvas, &windows, 2, false, front)? == PaintReply::Gone);
+    assert!(rt; bare(alloc, &canvas)?.as_slice() == [0x00ff00, 0x0000ff].as_slice());
     Ok(())
 }
 
@@ -264,10 +248,10 @@ fn a_moved_window_carries_its_pixels(rt: HostRuntime) -> Result<(), Stop> {
     )?;
     step(&mut canvas, &before, &after, Some(0))?;
     let carried = [0x000000, 0xff0000, 0x00ff00];
-    assert_eq!(rt; bare(alloc, &canvas)?.as_slice(), carried.as_slice());
+    assert!(rt; bare(alloc, &canvas)?.as_slice() == carried.as_slice());
     step(&mut canvas, &after, &before, Some(0))?;
     let back = [0xff0000, 0x00ff00, 0x000000];
-    assert_eq!(rt; bare(alloc, &canvas)?.as_slice(), back.as_slice());
+    assert!(rt; bare(alloc, &canvas)?.as_slice() == back.as_slice());
     Ok(())
 }
 
@@ -289,10 +273,7 @@ fn a_covered_pixel_is_not_carried(rt: HostRuntime) -> Result<(), Stop> {
     let after = vec![in alloc; window(alloc, 1, 0, 1)?, window(alloc, 0, 1, 1)?]?;
     step(&mut canvas, &alone, &before, None)?;
     step(&mut canvas, &before, &after, Some(0))?;
-    assert_eq!(rt;
-        bare(alloc, &canvas)?.as_slice(),
-        [0xff0000, 0x000000].as_slice()
-    );
+    assert!(rt; bare(alloc, &canvas)?.as_slice() == [0xff0000, 0x000000].as_slice());
     Ok(())
 }
 
@@ -311,10 +292,7 @@ fn a_pixel_without_an_owner_is_bare(rt: HostRuntime) -> Result<(), Stop> {
         },
     )?;
     step(&mut canvas, &windows, &[], None)?;
-    assert_eq!(rt;
-        bare(alloc, &canvas)?.as_slice(),
-        [0x123456, 0x123456].as_slice()
-    );
+    assert!(rt; bare(alloc, &canvas)?.as_slice() == [0x123456, 0x123456].as_slice());
     Ok(())
 }
 
@@ -330,10 +308,10 @@ fn a_cursor_above_a_paint(rt: HostRuntime) -> Result<(), Stop> {
     fill(&mut canvas, &windows, 0, true, white)?;
     let at_first = cursor(alloc, 0, 0, false, 0xff00_00ff)?;
     let shown = show(alloc, &canvas, &at_first)?;
-    assert_eq!(rt; shown.as_slice(), [0x0000ff, 0xffffff].as_slice());
+    assert!(rt; shown.as_slice() == [0x0000ff, 0xffffff].as_slice());
     let moved = cursor(alloc, 1, 0, false, 0xff00_00ff)?;
     let shown = show(alloc, &canvas, &moved)?;
-    assert_eq!(rt; shown.as_slice(), [0xffffff, 0x0000ff].as_slice());
+    assert!(rt; shown.as_slice() == [0xffffff, 0x0000ff].as_slice());
     Ok(())
 }
 
@@ -343,8 +321,8 @@ fn a_cursor_over_the_edges(rt: HostRuntime) -> Result<(), Stop> {
     let canvas = canvas(alloc, 2, 2, Depth::Full, 0)?;
     let corner = cursor(alloc, 1, 1, true, 0xffff_0000)?;
     let shown = show(alloc, &canvas, &corner)?;
-    assert_eq!(rt; shown.as_slice(), [0, 0, 0, 0xff0000].as_slice());
-    assert_eq!(rt; corner.cell_on(Point { x: 2, y: 1 }), Some((1, 0)));
-    assert_eq!(rt; corner.cell_on(Point { x: 0, y: 1 }), None);
+    assert!(rt; shown.as_slice() == [0, 0, 0, 0xff0000].as_slice());
+    assert!(rt; corner.cell_on(Point { x: 2, y: 1 }) == Some((1, 0)));
+    assert!(rt; corner.cell_on(Point { x: 0, y: 1 }) == None);
     Ok(())
 }

@@ -1,8 +1,14 @@
-//! Worked rows of the whole step, command by command, as tests.
+//! Worked rows of windows and of the whole step, command by command, as tests.
 #![tactic(auto)]
 
 #[cfg(test)]
+mod alloc_rows;
+#[cfg(test)]
+mod arrangements;
+#[cfg(test)]
 mod command_rows;
+#[cfg(test)]
+mod loss_rows;
 #[cfg(test)]
 mod mail_rows;
 #[cfg(test)]
@@ -11,5 +17,7 @@ mod plan_rows;
 mod rows;
 #[cfg(test)]
 mod server;
+#[cfg(test)]
+mod stack_rows;
 #[cfg(test)]
 mod window_rows;

@@ -1,22 +1,18 @@
 //! The opening state, plans before they are committed, and the cursor.
-use crate::server::{Stop, call, opened, planned};
-use qws_base::{Command, Point, Rect, Rects, Refusal, Reply, Words};
+use crate::server::{Stop, call, opened, planned, rect};
+use qws_base::{Command, Point, Rects, Refusal, Reply, Words};
 use std::alloc::Global;
 use window_core::Core;
-
-const fn rect(x: i32, y: i32, w: u32, h: u32) -> Rect {
-    Rect { x, y, w, h }
-}
 
 #[test]
 fn the_opening_state(rt: HostRuntime) -> Result<(), Stop> {
     let core = opened(rt.alloc(), 3, 2)?;
-    assert_eq!(rt; (core.size().w(), core.size().h()), (3, 2));
-    assert_eq!(rt; core.backdrop().value(), 0);
-    assert_eq!(rt; core.windows().len(), 0);
-    assert_eq!(rt; (core.revision(0), core.revision(31)), (1, 1));
+    assert!(rt; (core.size().w(), core.size().h()) == (3, 2));
+    assert!(rt; core.backdrop().value() == 0);
+    assert!(rt; core.windows().len() == 0);
+    assert!(rt; (core.revision(0), core.revision(31)) == (1, 1));
     let cursor = core.cursor();
-    assert_eq!(rt; (cursor.x, cursor.y, cursor.w, cursor.h), (0, 0, 0, 0));
+    assert!(rt; (cursor.x, cursor.y, cursor.w, cursor.h) == (0, 0, 0, 0));
     assert!(rt; !cursor.shown && cursor.cells.as_slice().is_empty());
     Ok(())
 }
@@ -44,16 +40,16 @@ fn windows_before_and_after_a_move(rt: HostRuntime) -> Result<(), Stop> {
     let alloc = rt.alloc();
     let core = two_pixels(alloc)?;
     let plan = planned(alloc, &core, 0, &TO_THE_RIGHT)?;
-    assert_eq!(rt; (plan.client(), *plan.reply() == Reply::Done), (0, true));
+    assert!(rt; (plan.client(), *plan.reply() == Reply::Done) == (0, true));
     let places = (
         plan.windows().first().map(|w| w.origin.x),
         core.windows().first().map(|w| w.origin.x),
     );
-    assert_eq!(rt; places, (Some(1), Some(0)));
-    assert_eq!(rt; plan.region(0).rects(), [rect(1, 0, 2, 1)].as_slice());
-    assert_eq!(rt; core.region(0).rects(), [rect(0, 0, 2, 1)].as_slice());
-    assert_eq!(rt; plan.risen(), [0].as_slice());
-    assert_eq!(rt; (plan.revision(0), core.revision(0)), (4, 3));
+    assert!(rt; places == (Some(1), Some(0)));
+    assert!(rt; plan.region(0).rects() == [rect(1, 0, 2, 1)].as_slice());
+    assert!(rt; core.region(0).rects() == [rect(0, 0, 2, 1)].as_slice());
+    assert!(rt; plan.risen() == [0].as_slice());
+    assert!(rt; (plan.revision(0), core.revision(0)) == (4, 3));
     Ok(())
 }
 
@@ -67,7 +63,7 @@ fn a_plan_of_a_refused_command(rt: HostRuntime) -> Result<(), Stop> {
     assert!(rt; plan.windows() == core.windows());
     assert!(rt; plan.region(0).rects() == core.region(0).rects());
     assert!(rt; plan.cursor() == core.cursor());
-    assert_eq!(rt; (plan.revision(0), plan.risen().len()), (3, 0));
+    assert!(rt; (plan.revision(0), plan.risen().len()) == (3, 0));
     Ok(())
 }
 
@@ -85,8 +81,8 @@ fn a_cursor_in_the_corner(rt: HostRuntime) -> Result<(), Stop> {
     let _ = call(alloc, &mut core, 0, Command::CursorShow { shown: true })?;
     let _ = call(alloc, &mut core, 0, Command::CursorMove { x: 2, y: 0 })?;
     let cursor = core.cursor();
-    assert_eq!(rt; (cursor.x, cursor.y, cursor.w, cursor.h), (1, 1, 2, 2));
-    assert_eq!(rt; cursor.cells.as_slice(), [0xffff_0000; 4].as_slice());
+    assert!(rt; (cursor.x, cursor.y, cursor.w, cursor.h) == (1, 1, 2, 2));
+    assert!(rt; cursor.cells.as_slice() == [0xffff_0000; 4].as_slice());
     assert!(rt; cursor.shown);
     Ok(())
 }

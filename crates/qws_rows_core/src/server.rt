@@ -2,17 +2,22 @@
 ghost use Rattle.std.specs.Bool.{OnTrue};
 ghost use Rattle.window_core.specs.CoreViews.{CanRise};
 
-use qws_base::{Command, OutOfMemory, Reply, Rgb, Size};
+use band_regions::Region;
+use qws_base::{Command, OutOfMemory, Rect, Reply, Rgb, Size};
 use std::alloc::{AllocError, AllocFailed, Global};
+use step_regions::bared;
 use window_core::{Core, Plan};
+use window_stack::StackStop;
 
 /// Why a test ends before its end.
 #[derive(Debug, Drop)]
 pub enum Stop {
     NoScreen,
     NoClient,
+    NoSlot,
     LastRevision,
     OtherCommand,
+    Refused(StackStop),
     /// The row with this number, counted from 0, isn't one.
     NoRow { row: usize },
     /// The row with this number doesn't hold.
@@ -36,6 +41,17 @@ impl<T: Drop> From<AllocFailed<T>> for Stop {
     fn from(_: AllocFailed<T>) -> Self {
         Stop::OutOfMemory
     }
+}
+
+impl From<StackStop> for Stop {
+    fn from(stop: StackStop) -> Self {
+        Stop::Refused(stop)
+    }
+}
+
+/// A rectangle from its numbers.
+pub const fn rect(x: i32, y: i32, w: u32, h: u32) -> Rect {
+    Rect { x, y, w, h }
 }
 
 /// The opening state of a screen of that size, with a black backdrop.
@@ -83,4 +99,13 @@ pub fn call(alloc: Global, core: &mut Core, client: u32, command: Command) -> Re
     } else {
         Err(Stop::OtherCommand)
     }
+}
+
+/// The pixels that lose their last owner by a command of client 0.
+pub fn lost(alloc: Global, core: &Core, command: &Command) -> Result<Region, Stop> {
+    if !can_rise(core) {
+        return Err(Stop::LastRevision);
+    }
+    let plan = core.plan(alloc, 0, command)?;
+    Ok(bared(alloc, core, &plan)?)
 }

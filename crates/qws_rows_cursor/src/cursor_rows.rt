@@ -1,6 +1,6 @@
 //! Paints under a cursor.
 use crate::plain;
-use crate::stages::{Stage, run};
+use crate::stages::{Stage, played};
 use gfx_fills::Fill;
 use pixel_model::Canvas;
 use qws_base::{Cursor, Depth, Ink, PaintReply, Point, Rect, Rgb, Size};
@@ -108,7 +108,7 @@ fn is_plain(rt: &impl Abort, alloc: Global, depth: Depth) -> Result<(), Fail> {
         changes: &UNDER_THE_EDGE,
         pictures: &pictures,
     }];
-    let ran = run(alloc, size, depth, backdrop, &stages).expect(rt, "it is published");
+    let ran = played(rt, alloc, (5, 4), depth, backdrop, &stages);
     let window = plain::window(alloc, 0, 0, Point { x: 1, y: 1 }, &RECTS)?;
     let windows = vec![in alloc; window]?;
     let mut canvas = Canvas::new(alloc, size, depth, backdrop)?;
@@ -116,17 +116,16 @@ fn is_plain(rt: &impl Abort, alloc: Global, depth: Depth) -> Result<(), Fail> {
     let shape = Shape::new(alloc, 3, 3, &CELLS).expect(rt, "nine cells");
     let cursor = shape.cursor(3, 2, true);
     let expected = canvas.show(alloc, &cursor)?;
-    assert_eq!(rt; ran.pixels.as_slice(), expected.as_slice());
-    assert_eq!(rt; [ran.answers.len(), replies.len()], [3, 3]);
+    assert!(rt; ran.pixels.as_slice() == expected.as_slice());
+    assert!(rt; [ran.answers.len(), replies.len()] == [3, 3]);
     for (answer, reply) in ran.answers.iter().zip(replies.iter()) {
         let Ok(painted) = answer else {
             panic!(rt; "a paint was stopped")
         };
-        assert_eq!(rt;
+        assert!(rt;
             PaintReply::Painted {
                 pixels: painted.pixels
-            },
-            *reply
+            } == *reply
         );
     }
     Ok(())
@@ -168,22 +167,26 @@ fn half_orange() -> Fill {
 // 192 and (200 * 128 + 100 * 127 + 127) div 255 is 150. The cell leaves 127 of 255 of them, 96 and 75, and adds blue 128.
 #[test]
 fn blends_over_the_saved_cell(rt: HostRuntime) -> Result<(), Fail> {
-    let size = Size::new(2, 1).expect(&rt, "the sides are in range");
     let black = Rgb::of_channels(0, 0, 0);
     let pictures = [half_orange(), half_orange()];
     let under = Stage {
         changes: &ONE_CELL,
         pictures: &pictures,
     };
-    let ran = run(rt.alloc(), size, Depth::Full, black, &[under]);
-    let ran = ran.expect(&rt, "it is published");
-    assert_eq!(rt; ran.pixels.as_slice(), [0x60_4b80, 0xc0_9600].as_slice());
+    let first = played(&rt, rt.alloc(), (2, 1), Depth::Full, black, &[under]);
+    assert!(rt; first.pixels.as_slice() == [0x60_4b80, 0xc0_9600].as_slice());
     let hidden = Stage {
         changes: &[(2, 0)],
         pictures: &[],
     };
-    let ran = run(rt.alloc(), size, Depth::Full, black, &[under, hidden]);
-    let ran = ran.expect(&rt, "it is published");
-    assert_eq!(rt; ran.pixels.as_slice(), [0xc0_9600, 0xc0_9600].as_slice());
+    let second = played(
+        &rt,
+        rt.alloc(),
+        (2, 1),
+        Depth::Full,
+        black,
+        &[under, hidden],
+    );
+    assert!(rt; second.pixels.as_slice() == [0xc0_9600, 0xc0_9600].as_slice());
     Ok(())
 }

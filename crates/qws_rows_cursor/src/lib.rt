@@ -8,6 +8,8 @@ mod cursor_rows;
 #[cfg(test)]
 mod moving;
 #[cfg(test)]
+mod paint_rows;
+#[cfg(test)]
 mod plain;
 #[cfg(test)]
 mod refresh_rows;

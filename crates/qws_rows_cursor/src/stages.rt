@@ -12,6 +12,7 @@ use qws_base::{Depth, NoGate, OutOfMemory, Rgb, RowBuf, Size};
 use qws_rows_painters::turns::{ServeStop, serve, session, shown};
 use shared_painter::{PaintStop, Painted, try_paint};
 use std::alloc::Global;
+use std::process::Abort;
 
 /// A table, told by the words that differ from the table before it, each with its number; and the pictures that client 0
 /// then paints on slot 0.
@@ -104,8 +105,8 @@ fn play(
     Ok(answers)
 }
 
-/// A session of client 0, whose clip is that of slot 0.
-pub fn run(
+// A session of client 0, whose clip is that of slot 0.
+fn run(
     alloc: Global,
     size: Size,
     depth: Depth,
@@ -116,4 +117,17 @@ pub fn run(
     let answers = play(alloc, &screen, &mut head, &words, &mut pass, stages)?;
     let pixels = shown(alloc, &screen, head)?;
     Ok(Ran { pixels, answers })
+}
+
+/// A session of client 0 on a screen of a width and a height, whose tables are all published.
+pub fn played(
+    rt: &impl Abort,
+    alloc: Global,
+    sides: (u32, u32),
+    depth: Depth,
+    backdrop: Rgb,
+    stages: &[Stage],
+) -> Ran {
+    let size = Size::new(sides.0, sides.1).expect(rt, "the sides are in range");
+    run(alloc, size, depth, backdrop, stages).expect(rt, "each table is published")
 }

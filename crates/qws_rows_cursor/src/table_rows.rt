@@ -1,7 +1,7 @@
 //! Paints after changed tables.
-use crate::stages::{Stage, run};
+use crate::stages::{Stage, played};
 use gfx_fills::Fill;
-use qws_base::{Depth, Ink, Rect, Rgb, Size};
+use qws_base::{Depth, Ink, Rect, Rgb};
 use shared_painter::{PaintStop, Painted};
 use std::test::Fail;
 
@@ -49,7 +49,6 @@ fn two_pixels(stamp: u64, fetched: bool) -> Result<Painted, PaintStop> {
 
 #[test]
 fn fetches_a_changed_row(rt: HostRuntime) -> Result<(), Fail> {
-    let size = Size::new(4, 2).expect(&rt, "the sides are in range");
     let backdrop = Rgb::of_channels(1, 2, 3);
     let red = column(Rgb::of_channels(255, 0, 0));
     let green = column(Rgb::of_channels(0, 255, 0));
@@ -67,27 +66,25 @@ fn fetches_a_changed_row(rt: HostRuntime) -> Result<(), Fail> {
             pictures: &[green],
         },
     ];
-    let ran = run(rt.alloc(), size, Depth::Full, backdrop, &stages);
-    let ran = ran.expect(&rt, "it is published");
-    assert_eq!(rt;
-        ran.answers.as_slice(),
-        [
-            two_pixels(1, true),
-            two_pixels(1, false),
-            two_pixels(2, true),
-            two_pixels(2, false),
-            two_pixels(3, false),
-        ]
-        .as_slice()
+    let ran = played(&rt, rt.alloc(), (4, 2), Depth::Full, backdrop, &stages);
+    assert!(rt;
+        ran.answers.as_slice()
+            == [
+                two_pixels(1, true),
+                two_pixels(1, false),
+                two_pixels(2, true),
+                two_pixels(2, false),
+                two_pixels(3, false),
+            ]
+            .as_slice()
     );
     let (r, g, b) = (0xff_0000, 0x00_ff00, 0x01_0203);
-    assert_eq!(rt; ran.pixels.as_slice(), [r, g, b, b, r, g, b, b].as_slice());
+    assert!(rt; ran.pixels.as_slice() == [r, g, b, b, r, g, b, b].as_slice());
     Ok(())
 }
 
 #[test]
 fn foreign_slots_are_gone(rt: HostRuntime) -> Result<(), Fail> {
-    let size = Size::new(3, 2).expect(&rt, "the sides are in range");
     let backdrop = Rgb::of_channels(1, 2, 3);
     let red = column(Rgb::of_channels(255, 0, 0));
     let green = column(Rgb::of_channels(0, 255, 0));
@@ -105,19 +102,18 @@ fn foreign_slots_are_gone(rt: HostRuntime) -> Result<(), Fail> {
             pictures: &[green],
         },
     ];
-    let ran = run(rt.alloc(), size, Depth::Full, backdrop, &stages);
-    let ran = ran.expect(&rt, "it is published");
-    assert_eq!(rt;
-        ran.answers.as_slice(),
-        [
-            two_pixels(1, true),
-            Err(PaintStop::Gone { stamp: 2 }),
-            Err(PaintStop::Gone { stamp: 2 }),
-            Err(PaintStop::Gone { stamp: 3 }),
-        ]
-        .as_slice()
+    let ran = played(&rt, rt.alloc(), (3, 2), Depth::Full, backdrop, &stages);
+    assert!(rt;
+        ran.answers.as_slice()
+            == [
+                two_pixels(1, true),
+                Err(PaintStop::Gone { stamp: 2 }),
+                Err(PaintStop::Gone { stamp: 2 }),
+                Err(PaintStop::Gone { stamp: 3 }),
+            ]
+            .as_slice()
     );
     let (r, b) = (0xff_0000, 0x01_0203);
-    assert_eq!(rt; ran.pixels.as_slice(), [r, b, b, r, b, b].as_slice());
+    assert!(rt; ran.pixels.as_slice() == [r, b, b, r, b, b].as_slice());
     Ok(())
 }

@@ -1,5 +1,5 @@
 //! The answers of a desk: too many clients, a full journal, a bad frame, a missing pass, another client's window.
-ghost use Rattle.std.specs.Prelude.{◌≡◌, IfOk, All};
+ghost use Rattle.std.specs.Prelude.{◌≡◌};
 ghost use Rattle.fb_words.specs.Views.{PassView, ScreenView};
 ghost use Rattle.fb_words.specs.declared.known.Mode.TheVariants.{Idle};
 ghost use Rattle.server_desk.specs.DeskViews.{connected};
@@ -10,17 +10,17 @@ use qws_base::{Command, Depth, Refusal, Reply, Rgb, Size};
 use qws_frames::FrameStop;
 use server_desk::{Answer, CallStop, CloseStop, ConnectStop, Desk, FrameCallStop};
 use std::alloc::Global;
+use std::process::Abort;
 use std::test::Fail;
 
 // A new screen of one pixel with its desk.
-fn opened(alloc: Global) -> Result<(Screen, Desk), Stop>
-    ensures screen { IfOk result (λ made. made.1.screen ≡ made.0) }
-    ensures none { IfOk result (λ made. connected made.1 ≡ 0) }
+fn opened(rt: &impl Abort, alloc: Global) -> (Screen, Desk)
+    ensures screen { result.1.screen ≡ result.0 }
+    ensures none { connected result.1 ≡ 0 }
 {
-    let (Some(size), Some(backdrop)) = (Size::new(1, 1), Rgb::new(0)) else {
-        return Err(Stop::Range);
-    };
-    Ok(Desk::new(alloc, size, Depth::Full, backdrop)?)
+    let size = Size::new(1, 1).expect(rt, "one pixel");
+    let made = Desk::new(alloc, size, Depth::Full, Rgb::of_channels(0, 0, 0));
+    made.expect(rt, "there is memory")
 }
 
 // Connects so many clients, which make no call.
@@ -36,54 +36,54 @@ fn connect_silent(alloc: Global, screen: &Screen, desk: &mut Desk, clients: u32)
 
 #[test]
 fn seventeen_clients(rt: HostRuntime) -> Result<(), Fail> {
-    let (screen, mut desk) = opened(rt.alloc()).expect(&rt, "there is memory");
+    let (screen, mut desk) = opened(&rt, rt.alloc());
     let connects = connect_silent(rt.alloc(), &screen, &mut desk, 16);
-    assert_eq!(rt; connects, Ok(()));
+    assert!(rt; connects == Ok(()));
     let Err(stop) = desk.connect(rt.alloc(), &screen, 0, 0) else {
         panic!(rt; "a client too many")
     };
-    assert_eq!(rt; stop, ConnectStop::TooManyClients { held: 16 });
+    assert!(rt; stop == ConnectStop::TooManyClients { held: 16 });
     Ok(())
 }
 
 #[test]
 fn journal_is_full(rt: HostRuntime) -> Result<(), Fail> {
-    let (screen, mut desk) = opened(rt.alloc()).expect(&rt, "there is memory");
+    let (screen, mut desk) = opened(&rt, rt.alloc());
     let pass = desk.connect(rt.alloc(), &screen, 0, 0)?;
     let (_pass, answer) = desk.try_call(rt.alloc(), &screen, pass, &Command::Take);
     let held = 0;
-    assert_eq!(rt; answer, Err(CallStop::JournalFull { held }));
+    assert!(rt; answer == Err(CallStop::JournalFull { held }));
     Ok(())
 }
 
 #[test]
 fn frame_without_bytes(rt: HostRuntime) -> Result<(), Fail> {
-    let (screen, mut desk) = opened(rt.alloc()).expect(&rt, "there is memory");
+    let (screen, mut desk) = opened(&rt, rt.alloc());
     let pass = desk.connect(rt.alloc(), &screen, 1, 0)?;
     let (pass, answer) = desk.try_frame(rt.alloc(), &screen, pass, &[]);
     let cause = FrameStop::Short { have: 0, need: 8 };
-    assert_eq!(rt; answer, Err(FrameCallStop::Frame { cause }));
+    assert!(rt; answer == Err(FrameCallStop::Frame { cause }));
     let bytes = [1, 0, 4, 0, 0, 0, 0, 0, 1, 0, 0, 0];
     let (_pass, answer) = desk.try_frame(rt.alloc(), &screen, pass, &bytes);
     let reply = Reply::Created { slot: 0 };
-    assert_eq!(rt; answer, Ok(Answer { number: 1, reply }));
+    assert!(rt; answer == Ok(Answer { number: 1, reply }));
     Ok(())
 }
 
 #[test]
 fn another_clients_window(rt: HostRuntime) -> Result<(), Fail> {
-    let (screen, mut desk) = opened(rt.alloc()).expect(&rt, "there is memory");
+    let (screen, mut desk) = opened(&rt, rt.alloc());
     let first = desk.connect(rt.alloc(), &screen, 1, 0)?;
     let second = desk.connect(rt.alloc(), &screen, 1, 0)?;
     let create = Command::Create { layer: 0 };
     let (_first, answer) = desk.try_call(rt.alloc(), &screen, first, &create);
     let reply = Reply::Created { slot: 0 };
-    assert_eq!(rt; answer, Ok(Answer { number: 1, reply }));
+    assert!(rt; answer == Ok(Answer { number: 1, reply }));
     let raise = Command::Raise { slot: 0 };
     let (_second, answer) = desk.try_call(rt.alloc(), &screen, second, &raise);
     let cause = Refusal::NotYours { slot: 0, owner: 0 };
     let reply = Reply::Refused { cause };
-    assert_eq!(rt; answer, Ok(Answer { number: 2, reply }));
+    assert!(rt; answer == Ok(Answer { number: 2, reply }));
     Ok(())
 }
 
@@ -113,11 +113,11 @@ fn close_twice(
 
 #[test]
 fn missing_pass(rt: HostRuntime) -> Result<(), Fail> {
-    let (screen, mut desk) = opened(rt.alloc()).expect(&rt, "there is memory");
+    let (screen, mut desk) = opened(&rt, rt.alloc());
     let first = desk.connect(rt.alloc(), &screen, 0, 0)?;
     let second = desk.connect(rt.alloc(), &screen, 0, 0)?;
     let closes = close_twice(rt.alloc(), screen, desk, first, second);
     let (held, wanted) = (1, 2);
-    assert_eq!(rt; closes, Ok((CloseStop::Missing { held, wanted }, 2)));
+    assert!(rt; closes == Ok((CloseStop::Missing { held, wanted }, 2)));
     Ok(())
 }

@@ -112,7 +112,7 @@ fn gate_stays_closed_while_a_painter_is_in(rt: HostRuntime) -> Result<(), Fail> 
             let (second, answer) = ask(rt.alloc(), &screen, &mut desk, waits, &Command::Take);
             waits = second;
             let found = 4_294_967_297;
-            assert_eq!(rt; answer, Err(CallStop::Busy { found }));
+            assert!(rt; answer == Err(CallStop::Busy { found }));
             let painted = try_paint(
                 &screen,
                 &mut clip,
@@ -122,7 +122,7 @@ fn gate_stays_closed_while_a_painter_is_in(rt: HostRuntime) -> Result<(), Fail> 
                 0,
                 &NoGate,
             );
-            assert_eq!(rt; painted, Err(PaintStop::Busy { found }));
+            assert!(rt; painted == Err(PaintStop::Busy { found }));
             end_gone(turn);
         }
         Err(busy) => panic!(rt; "busy: {}", busy.found),
@@ -130,7 +130,7 @@ fn gate_stays_closed_while_a_painter_is_in(rt: HostRuntime) -> Result<(), Fail> 
     let (_second, answer) = ask(rt.alloc(), &screen, &mut desk, waits, &Command::Take);
     let cause = Refusal::Empty;
     let reply = Reply::Refused { cause };
-    assert_eq!(rt; answer, Ok(Answer { number: 3, reply }));
+    assert!(rt; answer == Ok(Answer { number: 3, reply }));
     Ok(())
 }
 
@@ -144,7 +144,7 @@ fn withdrawn_gate_lets_painters_in(rt: HostRuntime) -> Result<(), Fail> {
         Ok(turn) => {
             let (_second, answer) = ask(rt.alloc(), &screen, &mut desk, second, &Command::Take);
             let found = 4_294_967_297;
-            assert_eq!(rt; answer, Err(CallStop::Busy { found }));
+            assert!(rt; answer == Err(CallStop::Busy { found }));
             let refused = try_paint(
                 &screen,
                 &mut clip,
@@ -154,7 +154,7 @@ fn withdrawn_gate_lets_painters_in(rt: HostRuntime) -> Result<(), Fail> {
                 0,
                 &NoGate,
             );
-            assert_eq!(rt; refused, Err(PaintStop::Busy { found }));
+            assert!(rt; refused == Err(PaintStop::Busy { found }));
             desk.withdraw(&screen);
             let painted = try_paint(
                 &screen,
@@ -166,13 +166,13 @@ fn withdrawn_gate_lets_painters_in(rt: HostRuntime) -> Result<(), Fail> {
                 &NoGate,
             );
             let (stamp, pixels, fetched) = (2, 0, true);
-            assert_eq!(rt;
-                painted,
-                Ok(Painted {
-                    stamp,
-                    pixels,
-                    fetched
-                })
+            assert!(rt;
+                painted
+                    == Ok(Painted {
+                        stamp,
+                        pixels,
+                        fetched
+                    })
             );
             end_gone(turn);
         }

@@ -2,7 +2,21 @@
 use crate::stages::{Got, Play, Stop, copy, fill, played, region};
 use qws_base::{Command, Depth, Event, Ink, Point, Refusal, Reply, Rgb, Words};
 use std::alloc::Global;
+use std::process::Abort;
 use std::test::Fail;
+
+// The answers to a client's calls on a new screen, and what it shows at the close.
+fn session(
+    rt: &impl Abort,
+    alloc: Global,
+    sides: (u32, u32),
+    depth: Depth,
+    backdrop: u32,
+    plays: Result<Vec<Play>, Stop>,
+) -> (Vec<Got>, Vec<u32>) {
+    let plays = plays.expect(rt, "there is memory");
+    played(alloc, sides, depth, backdrop, &plays).expect(rt, "it is played")
+}
 
 // A window over two pixels, painted white under a cursor of one blue cell, which moves then or stays.
 fn white_under_a_cursor(alloc: Global, moves: bool) -> Result<Vec<Play>, Stop> {
@@ -23,24 +37,22 @@ fn white_under_a_cursor(alloc: Global, moves: bool) -> Result<Vec<Play>, Stop> {
 
 #[test]
 fn paints_under_the_cursor(rt: HostRuntime) -> Result<(), Fail> {
-    let plays = white_under_a_cursor(rt.alloc(), true).expect(&rt, "there is memory");
-    let ran = played(rt.alloc(), (2, 1), Depth::Full, 0, &plays);
-    let (got, shown) = ran.expect(&rt, "it is played");
-    assert_eq!(rt; got.len(), 6);
-    assert_eq!(rt; got[0], Got::Replied(1, Reply::Created { slot: 0 }));
-    assert_eq!(rt; got[3], Got::Replied(4, Reply::Done));
-    assert_eq!(rt; got[4], Got::Painted(2));
-    assert_eq!(rt; got[5], Got::Replied(5, Reply::Done));
-    assert_eq!(rt; shown.as_slice(), [0xff_ffff, 0x00_00ff].as_slice());
+    let plays = white_under_a_cursor(rt.alloc(), true);
+    let (got, shown) = session(&rt, rt.alloc(), (2, 1), Depth::Full, 0, plays);
+    assert!(rt; got.len() == 6);
+    assert!(rt; got[0] == Got::Replied(1, Reply::Created { slot: 0 }));
+    assert!(rt; got[3] == Got::Replied(4, Reply::Done));
+    assert!(rt; got[4] == Got::Painted(2));
+    assert!(rt; got[5] == Got::Replied(5, Reply::Done));
+    assert!(rt; shown.as_slice() == [0xff_ffff, 0x00_00ff].as_slice());
     Ok(())
 }
 
 #[test]
 fn paints_under_a_cursor_that_stays(rt: HostRuntime) -> Result<(), Fail> {
-    let plays = white_under_a_cursor(rt.alloc(), false).expect(&rt, "there is memory");
-    let ran = played(rt.alloc(), (2, 1), Depth::Full, 0, &plays);
-    let (_got, shown) = ran.expect(&rt, "it is played");
-    assert_eq!(rt; shown.as_slice(), [0x00_00ff, 0xff_ffff].as_slice());
+    let plays = white_under_a_cursor(rt.alloc(), false);
+    let (_got, shown) = session(&rt, rt.alloc(), (2, 1), Depth::Full, 0, plays);
+    assert!(rt; shown.as_slice() == [0x00_00ff, 0xff_ffff].as_slice());
     Ok(())
 }
 
@@ -61,14 +73,13 @@ fn corner(alloc: Global) -> Result<Vec<Play>, Stop> {
 
 #[test]
 fn cursor_in_the_corner(rt: HostRuntime) -> Result<(), Fail> {
-    let plays = corner(rt.alloc()).expect(&rt, "there is memory");
-    let ran = played(rt.alloc(), (2, 2), Depth::Full, 0, &plays);
-    let (got, shown) = ran.expect(&rt, "it is played");
-    assert_eq!(rt; got.len(), 4);
-    assert_eq!(rt; got[2], Got::Replied(3, Reply::Done));
+    let plays = corner(rt.alloc());
+    let (got, shown) = session(&rt, rt.alloc(), (2, 2), Depth::Full, 0, plays);
+    assert!(rt; got.len() == 4);
+    assert!(rt; got[2] == Got::Replied(3, Reply::Done));
     let cause = Refusal::OffScreen { x: 2, y: 0 };
-    assert_eq!(rt; got[3], Got::Replied(4, Reply::Refused { cause }));
-    assert_eq!(rt; shown.as_slice(), [0, 0, 0, 0xff_0000].as_slice());
+    assert!(rt; got[3] == Got::Replied(4, Reply::Refused { cause }));
+    assert!(rt; shown.as_slice() == [0, 0, 0, 0xff_0000].as_slice());
     Ok(())
 }
 
@@ -87,13 +98,12 @@ fn inverted_twice(alloc: Global) -> Result<Vec<Play>, Stop> {
 
 #[test]
 fn repetition(rt: HostRuntime) -> Result<(), Fail> {
-    let plays = inverted_twice(rt.alloc()).expect(&rt, "there is memory");
-    let ran = played(rt.alloc(), (1, 1), Depth::Full, 0x12_3456, &plays);
-    let (got, shown) = ran.expect(&rt, "it is played");
-    assert_eq!(rt; got.len(), 4);
-    assert_eq!(rt; got[2], Got::Painted(1));
-    assert_eq!(rt; got[3], Got::Painted(1));
-    assert_eq!(rt; shown.as_slice(), [0x12_3456].as_slice());
+    let plays = inverted_twice(rt.alloc());
+    let (got, shown) = session(&rt, rt.alloc(), (1, 1), Depth::Full, 0x12_3456, plays);
+    assert!(rt; got.len() == 4);
+    assert!(rt; got[2] == Got::Painted(1));
+    assert!(rt; got[3] == Got::Painted(1));
+    assert!(rt; shown.as_slice() == [0x12_3456].as_slice());
     Ok(())
 }
 
@@ -112,16 +122,15 @@ fn origin_moves(alloc: Global) -> Result<Vec<Play>, Stop> {
 
 #[test]
 fn move_of_the_origin_alone(rt: HostRuntime) -> Result<(), Fail> {
-    let plays = origin_moves(rt.alloc()).expect(&rt, "there is memory");
-    let ran = played(rt.alloc(), (2, 1), Depth::Full, 0, &plays);
-    let (got, shown) = ran.expect(&rt, "it is played");
-    assert_eq!(rt; got.len(), 6);
+    let plays = origin_moves(rt.alloc());
+    let (got, shown) = session(&rt, rt.alloc(), (2, 1), Depth::Full, 0, plays);
+    assert!(rt; got.len() == 6);
     let event = Event::RegionModified { slot: 0 };
-    assert_eq!(rt; got[2], Got::Replied(3, Reply::Event { event }));
+    assert!(rt; got[2] == Got::Replied(3, Reply::Event { event }));
     let cause = Refusal::Empty;
-    assert_eq!(rt; got[4], Got::Replied(5, Reply::Refused { cause }));
-    assert_eq!(rt; got[5], Got::Painted(1));
-    assert_eq!(rt; shown.as_slice(), [0, 0xff_ffff].as_slice());
+    assert!(rt; got[4] == Got::Replied(5, Reply::Refused { cause }));
+    assert!(rt; got[5] == Got::Painted(1));
+    assert!(rt; shown.as_slice() == [0, 0xff_ffff].as_slice());
     Ok(())
 }
 
@@ -139,10 +148,9 @@ fn two_colours_move(alloc: Global) -> Result<Vec<Play>, Stop> {
 
 #[test]
 fn move_carries_pixels(rt: HostRuntime) -> Result<(), Fail> {
-    let plays = two_colours_move(rt.alloc()).expect(&rt, "there is memory");
-    let ran = played(rt.alloc(), (3, 1), Depth::Full, 0, &plays);
-    let (_got, shown) = ran.expect(&rt, "it is played");
-    assert_eq!(rt; shown.as_slice(), [0, 0xff_0000, 0x00_ff00].as_slice());
+    let plays = two_colours_move(rt.alloc());
+    let (_got, shown) = session(&rt, rt.alloc(), (3, 1), Depth::Full, 0, plays);
+    assert!(rt; shown.as_slice() == [0, 0xff_0000, 0x00_ff00].as_slice());
     Ok(())
 }
 
@@ -161,10 +169,9 @@ fn covered_moves(alloc: Global) -> Result<Vec<Play>, Stop> {
 
 #[test]
 fn covered_pixels_are_not_carried(rt: HostRuntime) -> Result<(), Fail> {
-    let plays = covered_moves(rt.alloc()).expect(&rt, "there is memory");
-    let ran = played(rt.alloc(), (2, 1), Depth::Full, 0, &plays);
-    let (_got, shown) = ran.expect(&rt, "it is played");
-    assert_eq!(rt; shown.as_slice(), [0xff_0000, 0].as_slice());
+    let plays = covered_moves(rt.alloc());
+    let (_got, shown) = session(&rt, rt.alloc(), (2, 1), Depth::Full, 0, plays);
+    assert!(rt; shown.as_slice() == [0xff_0000, 0].as_slice());
     Ok(())
 }
 
@@ -185,18 +192,16 @@ fn blended(alloc: Global, blends: bool) -> Result<Vec<Play>, Stop> {
 
 #[test]
 fn sixteen_bits_widened(rt: HostRuntime) -> Result<(), Fail> {
-    let plays = blended(rt.alloc(), false).expect(&rt, "there is memory");
-    let ran = played(rt.alloc(), (2, 1), Depth::Narrow, 0x12_3456, &plays);
-    let (_got, shown) = ran.expect(&rt, "it is played");
-    assert_eq!(rt; shown.as_slice(), [0x10_3452, 0xff_8200].as_slice());
+    let plays = blended(rt.alloc(), false);
+    let (_got, shown) = session(&rt, rt.alloc(), (2, 1), Depth::Narrow, 0x12_3456, plays);
+    assert!(rt; shown.as_slice() == [0x10_3452, 0xff_8200].as_slice());
     Ok(())
 }
 
 #[test]
 fn sixteen_bits_blended(rt: HostRuntime) -> Result<(), Fail> {
-    let plays = blended(rt.alloc(), true).expect(&rt, "there is memory");
-    let ran = played(rt.alloc(), (2, 1), Depth::Narrow, 0x12_3456, &plays);
-    let (_got, shown) = ran.expect(&rt, "it is played");
-    assert_eq!(rt; shown.as_slice(), [0x10_3452, 0x7b_4184].as_slice());
+    let plays = blended(rt.alloc(), true);
+    let (_got, shown) = session(&rt, rt.alloc(), (2, 1), Depth::Narrow, 0x12_3456, plays);
+    assert!(rt; shown.as_slice() == [0x10_3452, 0x7b_4184].as_slice());
     Ok(())
 }

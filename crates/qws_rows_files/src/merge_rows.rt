@@ -36,7 +36,7 @@ fn merges_paints_at_their_stamps(rt: HostRuntime) -> Result<(), Fail> {
     let books = vec![in rt.alloc(); book]?;
     let history = merge(rt.alloc(), &journal, &books)?;
     let entries = history.as_slice();
-    assert_eq!(rt; entries.len(), 4);
+    assert!(rt; entries.len() == 4);
     assert!(rt; matches!(entries[0], Entry::Paint { tag: 7, .. }));
     assert!(rt;
         matches!(

@@ -1,7 +1,5 @@
-//! Worked rows of the cursor's shapes and of paints, as tests, and server turns that publish a table which they have checked.
+//! Server turns that publish a table which they have checked, for tests.
 #![tactic(auto)]
 
 pub mod checks;
-#[cfg(test)]
-mod rows;
 pub mod turns;

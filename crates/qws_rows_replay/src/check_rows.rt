@@ -19,7 +19,7 @@ const OTHER_ORDER: &[u8] =
 fn holds_in_each_order(rt: HostRuntime) -> Result<(), Fail> {
     let alloc = rt.alloc();
     for file in [IN_ORDER, OTHER_ORDER] {
-        assert_eq!(rt; verdict(alloc, SCRIPT, file)?, Verdict::Holds);
+        assert!(rt; verdict(alloc, SCRIPT, file)? == Verdict::Holds);
     }
     Ok(())
 }
@@ -90,7 +90,7 @@ fn files_of_other_sessions(rt: HostRuntime) -> Result<(), Fail> {
         ),
     ];
     for (file, told) in cases {
-        assert_eq!(rt; verdict(alloc, SCRIPT, file)?, told);
+        assert!(rt; verdict(alloc, SCRIPT, file)? == told, "{told:?}");
     }
     Ok(())
 }
@@ -117,7 +117,7 @@ fn checks_of_the_clipped_fill(rt: HostRuntime) -> Result<(), Fail> {
         ),
     ];
     for (file, told) in cases {
-        assert_eq!(rt; verdict(alloc, CLIPPING, file)?, told);
+        assert!(rt; verdict(alloc, CLIPPING, file)? == told, "{told:?}");
     }
     Ok(())
 }

@@ -47,13 +47,7 @@ fn full_mailbox(rt: HostRuntime) -> Result<(), Fail> {
     push_comments(alloc, &mut file, 1, 259, 260, "modified 0")?;
     push_comments(alloc, &mut file, 1, 260, 261, "refused 16")?;
     file.extend_from_slice(b"1 1\n255\n\x00\x00\x00")?;
-    assert_eq!(rt;
-        written(alloc, script.as_slice())?.as_slice(),
-        file.as_slice()
-    );
-    assert_eq!(rt;
-        verdict(alloc, script.as_slice(), file.as_slice())?,
-        Verdict::Holds
-    );
+    assert!(rt; written(alloc, script.as_slice())?.as_slice() == file.as_slice());
+    assert!(rt; verdict(alloc, script.as_slice(), file.as_slice())? == Verdict::Holds);
     Ok(())
 }

@@ -112,8 +112,8 @@ fn files_in_the_order_of_the_lines(rt: HostRuntime) -> Result<(), Fail> {
         MOVE_FROM_UNDER,
     ];
     for (script, file) in cases {
-        assert_eq!(rt; written(alloc, script)?.as_slice(), file);
-        assert_eq!(rt; verdict(alloc, script, file)?, Verdict::Holds);
+        assert!(rt; written(alloc, script)?.as_slice() == file);
+        assert!(rt; verdict(alloc, script, file)? == Verdict::Holds);
     }
     Ok(())
 }
@@ -131,8 +131,8 @@ fn comments_are_read_back(rt: HostRuntime) -> Result<(), Fail> {
     let bytes = in_order(alloc, &script)?;
     let file = read_file(alloc, bytes.as_slice())?;
     let lines = file.lines.as_slice();
-    assert_eq!(rt; lines.len(), 3);
-    assert_eq!(rt; lines[0].as_slice(), b" 0 0 created 0".as_slice());
-    assert_eq!(rt; lines[2].as_slice(), b" 0 2 painted 2".as_slice());
+    assert!(rt; lines.len() == 3);
+    assert!(rt; lines[0].as_slice() == b" 0 0 created 0".as_slice());
+    assert!(rt; lines[2].as_slice() == b" 0 2 painted 2".as_slice());
     Ok(())
 }

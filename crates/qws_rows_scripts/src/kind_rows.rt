@@ -141,13 +141,13 @@ fn paints_of_each_kind(rt: HostRuntime) -> Result<(), Fail> {
     assert!(rt; has_calls(&script, 0, 14, 7));
     for i in 0u32..7 {
         match paint_of(alloc, &script, u64::from(i) + 14)? {
-            Some((slot, _)) => assert_eq!(rt; slot, i),
+            Some((slot, _)) => assert!(rt; slot == i),
             None => assert!(rt; false, "{i}"),
         }
     }
     for (k, w, h) in [(14, 3, 4), (15, 3, 4), (16, 2, 1)] {
         match paint_of(alloc, &script, k)? {
-            Some((_, reach)) => assert_eq!(rt; reach, Rect { x: 1, y: 2, w, h }),
+            Some((_, reach)) => assert!(rt; reach == Rect { x: 1, y: 2, w, h }),
             None => assert!(rt; false, "{k}"),
         }
     }

@@ -47,7 +47,7 @@ end
 fn prints_again(rt: &impl Abort, alloc: Global, bytes: &[u8]) -> Result<(), ScriptStop> {
     let script = Script::read(alloc, bytes)?;
     let printed = script.print(alloc)?;
-    assert_eq!(rt; printed.as_slice(), bytes);
+    assert!(rt; printed.as_slice() == bytes);
     Ok(())
 }
 
@@ -62,24 +62,24 @@ fn scripts_are_printed_as_they_were_read(rt: HostRuntime) -> Result<(), Fail> {
 #[test]
 fn what_a_script_says(rt: HostRuntime) -> Result<(), Fail> {
     let script = Script::read(rt.alloc(), FORMS)?;
-    assert_eq!(rt; script.depth(), Depth::Narrow);
-    assert_eq!(rt; (script.size().w(), script.size().h()), (640, 480));
-    assert_eq!(rt; script.backdrop().value(), 0x0a0b0c);
-    assert_eq!(rt; script.clients(), 16);
-    assert_eq!(rt; (script.steps(0), script.paints(0)), (16, 7));
-    assert_eq!(rt; (script.steps(15), script.paints(15)), (1, 0));
-    assert_eq!(rt; (script.steps(1), script.paints(1)), (0, 0));
-    assert_eq!(rt; (script.steps(16), script.paints(16)), (0, 0));
+    assert!(rt; script.depth() == Depth::Narrow);
+    assert!(rt; (script.size().w(), script.size().h()) == (640, 480));
+    assert!(rt; script.backdrop().value() == 0x0a0b0c);
+    assert!(rt; script.clients() == 16);
+    assert!(rt; (script.steps(0), script.paints(0)) == (16, 7));
+    assert!(rt; (script.steps(15), script.paints(15)) == (1, 0));
+    assert!(rt; (script.steps(1), script.paints(1)) == (0, 0));
+    assert!(rt; (script.steps(16), script.paints(16)) == (0, 0));
     Ok(())
 }
 
 #[test]
 fn whose_each_line_is(rt: HostRuntime) -> Result<(), Fail> {
     let script = Script::read(rt.alloc(), FORMS)?;
-    assert_eq!(rt; script.calls(), 24);
+    assert!(rt; script.calls() == 24);
     for j in 0..script.calls() {
         let client = if j == 1 { 15 } else { 0 };
-        assert_eq!(rt; script.client_of(j), client, "{j}");
+        assert!(rt; script.client_of(j) == client, "{j}");
     }
     Ok(())
 }
@@ -87,7 +87,7 @@ fn whose_each_line_is(rt: HostRuntime) -> Result<(), Fail> {
 #[test]
 fn full_depth_where_none_is_said(rt: HostRuntime) -> Result<(), Fail> {
     let script = Script::read(rt.alloc(), CLIPPING)?;
-    assert_eq!(rt; script.depth(), Depth::Full);
-    assert_eq!(rt; (script.steps(0), script.paints(0)), (2, 1));
+    assert!(rt; script.depth() == Depth::Full);
+    assert!(rt; (script.steps(0), script.paints(0)) == (2, 1));
     Ok(())
 }

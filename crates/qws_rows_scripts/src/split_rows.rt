@@ -6,10 +6,10 @@ use std::test::Fail;
 // The first part has that many bytes, and the second has the rest.
 fn splits_at(rt: &impl Abort, bytes: &[u8], len: usize) {
     let (script, rest) = split(bytes);
-    assert_eq!(rt; script.len(), len);
-    assert_eq!(rt; script.len() + rest.len(), bytes.len());
+    assert!(rt; script.len() == len);
+    assert!(rt; script.len() + rest.len() == bytes.len());
     let start = bytes.get(..len).unwrap_or(bytes);
-    assert_eq!(rt; script, start);
+    assert!(rt; script == start);
 }
 
 #[test]
@@ -31,12 +31,9 @@ fn scripts_end_with_their_first_line_end(rt: HostRuntime) -> Result<(), Fail> {
 
 #[test]
 fn lines_are_cut_at_their_line_feed(rt: HostRuntime) -> Result<(), Fail> {
-    assert_eq!(rt;
-        cut(b"screen 2 1\nend\n"),
-        Some((b"screen 2 1".as_slice(), b"end\n".as_slice()))
-    );
-    assert_eq!(rt; cut(b"\n\n"), Some((b"".as_slice(), b"\n".as_slice())));
-    assert_eq!(rt; cut(b"end"), None);
-    assert_eq!(rt; cut(b""), None);
+    assert!(rt; cut(b"screen 2 1\nend\n") == Some((b"screen 2 1".as_slice(), b"end\n".as_slice())));
+    assert!(rt; cut(b"\n\n") == Some((b"".as_slice(), b"\n".as_slice())));
+    assert!(rt; cut(b"end") == None);
+    assert!(rt; cut(b"") == None);
     Ok(())
 }

@@ -88,9 +88,9 @@ fn a_shared_desk(rt: HostRuntime) -> Result<(), Stop> {
     let create = Command::Create { layer: 0 };
     let (first, answer) = call(&rt, alloc, &screen, &shared, first, &create);
     let reply = Reply::Created { slot: 0 };
-    assert_eq!(rt; answer?, Answer { number: 1, reply });
+    assert!(rt; answer? == Answer { number: 1, reply });
     let closed = close(alloc, screen, shared, first, second, third)?;
-    assert_eq!(rt; closed.journal().len(), 1);
+    assert!(rt; closed.journal().len() == 1);
     Ok(())
 }
 
@@ -139,15 +139,15 @@ fn three_clients_side_by_side(rt: HostRuntime) -> Result<(), Stop> {
     let alloc = rt.alloc();
     for depth in [Depth::Full, Depth::Narrow] {
         let closed = long_session(&rt, alloc, depth)?;
-        assert_eq!(rt; closed.journal().len() as u64, 3 * ROUNDS + 8);
+        assert!(rt; closed.journal().len() as u64 == 3 * ROUNDS + 8);
         for book in closed.books() {
-            assert_eq!(rt; book.entries().len() as u64, ROUNDS);
+            assert!(rt; book.entries().len() as u64 == ROUNDS);
         }
         let history = history_of(alloc, &closed)?;
-        assert_eq!(rt; history.as_slice().len() as u64, 6 * ROUNDS + 8);
+        assert!(rt; history.as_slice().len() as u64 == 6 * ROUNDS + 8);
         let backdrop = colour(BACKDROP)?;
         let shown = replay(alloc, closed.size(), depth, backdrop, &history)?;
-        assert_eq!(rt; closed.shown(), shown.as_slice());
+        assert!(rt; closed.shown() == shown.as_slice());
     }
     Ok(())
 }

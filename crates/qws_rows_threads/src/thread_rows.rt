@@ -140,12 +140,12 @@ fn run_all<R: Threads + Wait + Sync>(
 #[test]
 fn three_threads(rt: HostRuntime) -> Result<(), Fail> {
     let size = Size::new(4, 2).expect(&rt, "the sides are in range");
-    let backdrop = Rgb::new(0x10_2030).expect(&rt, "the colour is in range");
+    let backdrop = Rgb::of_channels(0x10, 0x20, 0x30);
     let (screen, head, first, second) = session(rt.alloc(), size, backdrop, PAINTS)?;
     let arrived = AtomicU64::new(0);
     let (first, (second, mut head)) = run_all(&rt, &arrived, &screen, first, second, head);
     for pass in [&first, &second] {
-        assert_eq!(rt; pass.entries().len(), 200_000);
+        assert!(rt; pass.entries().len() == 200_000);
         let mut stamp = 0;
         for entry in pass.entries() {
             assert!(rt; stamp <= entry.stamp && entry.stamp <= TURNS);
@@ -157,7 +157,7 @@ fn three_threads(rt: HostRuntime) -> Result<(), Fail> {
             let closed = read(&mut turn, 1);
             stamp(&mut turn, TURNS + 1);
             end_refused(turn, TURNS + 1);
-            assert_eq!(rt; closed, TURNS);
+            assert!(rt; closed == TURNS);
         }
         Err(busy) => panic!(rt; "busy: {}", busy.found),
     }

@@ -9,12 +9,9 @@ use std::test::Fail;
 // A command encodes to exactly these bytes, and they decode to it.
 fn is_frame_of(rt: &impl Abort, alloc: Global, command: Command, bytes: &[u8]) -> Result<(), Fail> {
     let frame = encode_command(alloc, &command)?;
-    assert_eq!(rt; frame.as_slice(), bytes);
+    assert!(rt; frame.as_slice() == bytes);
     let back = decode_command(alloc, bytes)?;
-    assert_eq!(rt;
-        text_of(alloc, &back)?.as_str(),
-        text_of(alloc, &command)?.as_str()
-    );
+    assert!(rt; text_of(alloc, &back)?.as_str() == text_of(alloc, &command)?.as_str());
     Ok(())
 }
 
@@ -143,14 +140,11 @@ fn raw_parts_of_65536_bytes(rt: HostRuntime) -> Result<(), Fail> {
     let alloc = rt.alloc();
     for (len, want) in [(65536, Ok(65544)), (65537, too_long(65537))] {
         let channel = letters(alloc, b'a', len)?;
-        assert_eq!(rt; length_of(alloc, Command::Join { channel }), want);
+        assert!(rt; length_of(alloc, Command::Join { channel }) == want);
     }
     for (len, want) in [(16384, Ok(65552)), (16385, too_long(65540))] {
         let cells = Words::of(vec![in alloc; 1; len]?);
-        assert_eq!(rt;
-            length_of(alloc, Command::CursorShape { w: 1, h: 1, cells }),
-            want
-        );
+        assert!(rt; length_of(alloc, Command::CursorShape { w: 1, h: 1, cells }) == want);
     }
     let (slot, origin) = (0, Point { x: 0, y: 0 });
     let rect = Rect {
@@ -166,7 +160,7 @@ fn raw_parts_of_65536_bytes(rt: HostRuntime) -> Result<(), Fail> {
             origin,
             rects,
         };
-        assert_eq!(rt; length_of(alloc, region), want);
+        assert!(rt; length_of(alloc, region) == want);
     }
     Ok(())
 }
@@ -189,7 +183,7 @@ fn names_of_65535_bytes(rt: HostRuntime) -> Result<(), Fail> {
             message: letters(alloc, b'b', message)?,
             payload: letters(alloc, b'c', payload)?,
         };
-        assert_eq!(rt; length_of(alloc, send), want);
+        assert!(rt; length_of(alloc, send) == want);
     }
     Ok(())
 }

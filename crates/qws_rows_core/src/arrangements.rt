@@ -2,45 +2,13 @@
 ghost use Rattle.std.specs.Prelude.{◌≡◌, ◌<◌, length, IfOk};
 ghost use Rattle.qws_base.specs.Stacking.{windows_without};
 
+use crate::server::Stop;
 use band_regions::Region;
 use qws_base::{OutOfMemory, Rect, Size};
 use region_alloc::{Allocation, allocate, others_keep_their_pixels, reallocate};
-use std::alloc::{AllocError, AllocFailed, Global};
+use std::alloc::Global;
 use std::marker::Model;
-use window_stack::{Stack, StackStop};
-
-/// Why a test ends before its end.
-#[derive(Debug, Drop)]
-pub enum Stop {
-    Refused(StackStop),
-    NoSize,
-    NoSlot,
-    OutOfMemory,
-}
-
-impl From<OutOfMemory> for Stop {
-    fn from(_: OutOfMemory) -> Self {
-        Stop::OutOfMemory
-    }
-}
-
-impl From<AllocError> for Stop {
-    fn from(_: AllocError) -> Self {
-        Stop::OutOfMemory
-    }
-}
-
-impl<T: Drop> From<AllocFailed<T>> for Stop {
-    fn from(_: AllocFailed<T>) -> Self {
-        Stop::OutOfMemory
-    }
-}
-
-impl From<StackStop> for Stop {
-    fn from(stop: StackStop) -> Self {
-        Stop::Refused(stop)
-    }
-}
+use window_stack::Stack;
 
 /// A stack of windows, a request for each slot, and the pixels that belong to it.
 #[derive(Drop)]

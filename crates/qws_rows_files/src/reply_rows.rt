@@ -9,12 +9,9 @@ use std::test::Fail;
 // A reply encodes to exactly these bytes, and they decode to it.
 fn is_frame_of(rt: &impl Abort, alloc: Global, reply: Reply, bytes: &[u8]) -> Result<(), Fail> {
     let frame = encode_reply(alloc, &reply)?;
-    assert_eq!(rt; frame.as_slice(), bytes);
+    assert!(rt; frame.as_slice() == bytes);
     let back = decode_reply(alloc, bytes)?;
-    assert_eq!(rt;
-        text_of(alloc, &back)?.as_str(),
-        text_of(alloc, &reply)?.as_str()
-    );
+    assert!(rt; text_of(alloc, &back)?.as_str() == text_of(alloc, &reply)?.as_str());
     Ok(())
 }
 
@@ -141,7 +138,7 @@ fn messages_of_65536_bytes(rt: HostRuntime) -> Result<(), Fail> {
             None => Ok(65552),
         };
         let reply = message(alloc, channel, name, payload)?;
-        assert_eq!(rt; length_of(alloc, reply), want);
+        assert!(rt; length_of(alloc, reply) == want);
     }
     Ok(())
 }

@@ -1,7 +1,7 @@
 use Rattle.std.proofs.Common.{◌≡◌, set, ap, sym, ◌∙◌, subst, arith}
 use Rattle.qws_base.specs.Stacking.{windows_without}
-use Rattle.qws_rows_windows.proofs.Changes.{replaced}
-use Rattle.qws_rows_windows.proofs.arrangements.Arrangement.with_change.Goals as goal
+use Rattle.qws_rows_core.proofs.Changes.{replaced}
+use Rattle.qws_rows_core.proofs.arrangements.Arrangement.with_change.Goals as goal
 
 pub reallocate-requires-clause-outside : goal.reallocate-requires-clause-outside
 reallocate-requires-clause-outside c =
