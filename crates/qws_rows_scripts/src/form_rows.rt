@@ -1,4 +1,4 @@
-//! The forms of lines: the least and the greatest value of each word, and one past both.
+//! The forms of lines, and the spellings of their words.
 use crate::bad_rows::found_bad;
 use qws_base::OutOfMemory;
 use session_script::{Cause, ScriptStop};
@@ -18,9 +18,9 @@ const UNKNOWN: Option<Cause> = Some(Cause::Unknown);
 
 const MISSING: Option<Cause> = Some(Cause::Missing);
 
-// The cause of a line behind a head of one client, a font with one glyph, and an image. Where another line is bad, the test
-// that calls it fails.
-fn cause_of(alloc: Global, line: &str) -> Result<Option<Cause>, ScriptStop> {
+/// The cause of a line behind a head of one client, a font with one glyph, and an image. Where another line is bad, the test
+/// that calls it fails.
+pub(crate) fn cause_of(alloc: Global, line: &str) -> Result<Option<Cause>, ScriptStop> {
     let text = format!(in alloc;
         "screen 1 1 ffffff\nclients 1\nfont 2\nglyph 65 4 f 0\nimage 1 1 ff102030\n{line}\nend\n"
     )?;
@@ -50,10 +50,8 @@ fn window_commands(rt: HostRuntime) -> Result<(), Fail> {
         ("0 create a 0", GOOD),
         ("0 create abcdefghij012345 65535", GOOD),
         ("0 create abcdefghij0123456 0", NUMBER),
-        ("0 create a 65536", RANGE),
         ("0 create a 100000", NUMBER),
         ("0 create a 00", NUMBER),
-        ("0 create a -1", NUMBER),
         ("0 create 1a 0", NUMBER),
         ("0 create A 0", NUMBER),
         ("0 create a", FORM),
@@ -63,20 +61,11 @@ fn window_commands(rt: HostRuntime) -> Result<(), Fail> {
         ("00 create a 0", NUMBER),
         ("0 creates a 0", FORM),
         ("0 destroy a", GOOD),
-        ("0 destroy #0", GOOD),
-        ("0 destroy #32", GOOD),
-        ("0 destroy #33", RANGE),
         ("0 destroy #", NUMBER),
         ("0 destroy #01", NUMBER),
         ("0 destroy", FORM),
-        ("0 move a -32768 32767", GOOD),
-        ("0 move a 32767 -32768", GOOD),
-        ("0 move a -32769 0", RANGE),
-        ("0 move a 0 32768", RANGE),
         ("0 move a -0 0", NUMBER),
         ("0 move a 0", FORM),
-        ("0 raise #32", GOOD),
-        ("0 raise #33", RANGE),
         ("0 lower a", GOOD),
         ("0 lower a a", FORM),
     ];
@@ -87,17 +76,8 @@ fn window_commands(rt: HostRuntime) -> Result<(), Fail> {
 #[test]
 fn region_commands(rt: HostRuntime) -> Result<(), Fail> {
     let rows = [
-        ("0 region a -32768 32767", GOOD),
-        ("0 region #32 32767 -32768", GOOD),
-        ("0 region a -32769 0", RANGE),
-        ("0 region a 0 32768", RANGE),
         ("0 region a 0 0 -32768 32767 0 65535", GOOD),
         ("0 region a 0 0 32767 -32768 65535 0", GOOD),
-        ("0 region a 0 0 -32769 0 1 1", RANGE),
-        ("0 region a 0 0 0 32768 1 1", RANGE),
-        ("0 region a 0 0 0 0 65536 1", RANGE),
-        ("0 region a 0 0 0 0 1 65536", RANGE),
-        ("0 region a 0 0 0 0 -1 1", NUMBER),
         ("0 region a 0 0 0 0 1", FORM),
         ("0 region a 0", FORM),
         ("0 region a 0 0 0 0 1 1 1", FORM),
@@ -111,15 +91,9 @@ fn cursor_and_channel_commands(rt: HostRuntime) -> Result<(), Fail> {
     let rows = [
         ("0 shape 0 0 -", GOOD),
         ("0 shape 65535 65535 00000000ffffffff", GOOD),
-        ("0 shape 65536 0 -", RANGE),
-        ("0 shape 0 65536 -", RANGE),
         ("0 shape 1 1 ff00000", NUMBER),
         ("0 shape 1 1 FF000000", NUMBER),
         ("0 shape 1 1", FORM),
-        ("0 cursor -32768 32767", GOOD),
-        ("0 cursor 32767 -32768", GOOD),
-        ("0 cursor 32768 0", RANGE),
-        ("0 cursor 0 -32769", RANGE),
         ("0 show 0", GOOD),
         ("0 show 1", GOOD),
         ("0 show 2", FORM),
@@ -156,17 +130,8 @@ fn fills_and_tiles(rt: HostRuntime) -> Result<(), Fail> {
     let rows = [
         ("0 fill a -4096 4095 4096 1 copy 000000", GOOD),
         ("0 fill a 4095 -4096 1 4096 xor ffffff", GOOD),
-        ("0 fill a 4096 0 1 1 copy ffffff", RANGE),
-        ("0 fill a 0 -4097 1 1 copy ffffff", RANGE),
-        ("0 fill a 0 0 4097 1 copy ffffff", RANGE),
-        ("0 fill a 0 0 1 4097 copy ffffff", RANGE),
-        ("0 fill a 0 0 0 1 copy ffffff", RANGE),
-        ("0 fill a 0 0 1 0 copy ffffff", RANGE),
         ("0 fill a 0 0 1 1 and 0f0f0f", GOOD),
         ("0 fill a 0 0 1 1 or 0f0f0f", GOOD),
-        ("0 fill a 0 0 1 1 blend 0 ffffff", GOOD),
-        ("0 fill a 0 0 1 1 blend 255 ffffff", GOOD),
-        ("0 fill a 0 0 1 1 blend 256 ffffff", RANGE),
         ("0 fill a 0 0 1 1 blend ffffff", FORM),
         ("0 fill a 0 0 1 1 copy 0 ffffff", FORM),
         ("0 fill a 0 0 1 1 paint ffffff", FORM),
@@ -174,17 +139,10 @@ fn fills_and_tiles(rt: HostRuntime) -> Result<(), Fail> {
         ("0 fill a 0 0 1 1 copy fffffg", NUMBER),
         ("0 fill a 0 0 1 1 copy FFFFFF", NUMBER),
         ("0 fill a 0 0 1 1", FORM),
-        ("0 tile #32 -4096 4095 4096 1 0", GOOD),
-        ("0 tile a 4095 -4096 1 4096 0", GOOD),
-        ("0 tile a 0 0 4097 1 0", RANGE),
         ("0 tile a 0 0 1 1 1", UNKNOWN),
         ("0 tile a 0 0 1 1 65535", UNKNOWN),
         ("0 tile a 0 0 1 1 65536", RANGE),
-        ("0 blit a -4096 4095 0 0", GOOD),
-        ("0 blit a 4095 -4096 0 255", GOOD),
-        ("0 blit a 0 0 0 256", RANGE),
         ("0 blit a 0 0 1 255", UNKNOWN),
-        ("0 blit a 4096 0 0 255", RANGE),
         ("0 blit a 0 0 0", FORM),
     ];
     judges(&rt, rt.alloc(), &rows)?;
@@ -195,21 +153,15 @@ fn fills_and_tiles(rt: HostRuntime) -> Result<(), Fail> {
 fn lines_and_texts(rt: HostRuntime) -> Result<(), Fail> {
     let rows = [
         ("0 line a -4096 4095 4095 -4096 ffffff", GOOD),
-        ("0 line a -4097 0 0 0 ffffff", RANGE),
-        ("0 line a 0 0 0 4096 ffffff", RANGE),
         ("0 line a 0 0 0 0", FORM),
         ("0 polyline a ffffff -4096 4095 4095 -4096", GOOD),
-        ("0 polyline a ffffff 0 0 4096 0", RANGE),
         ("0 polyline a ffffff 0 0", FORM),
         ("0 polyline a ffffff 0 0 1", FORM),
         ("0 polygon a copy ffffff 0 0 4095 0 0 -4096", GOOD),
-        ("0 polygon a copy ffffff 0 0 4095 0 0 -4097", RANGE),
-        ("0 polygon a blend 255 ffffff 0 0 1 0 0 1", GOOD),
         ("0 polygon a copy ffffff 0 0 1 0", FORM),
         ("0 polygon a copy ffffff 0 0 1 0 0", FORM),
         ("0 text a 0 -4096 4095 copy ffffff 65", GOOD),
         ("0 text a 0 4095 -4096 blend 0 ffffff 65 65", GOOD),
-        ("0 text a 0 0 4096 copy ffffff 65", RANGE),
         ("0 text a 1 0 0 copy ffffff 65", UNKNOWN),
         ("0 text a 0 0 0 copy ffffff 66", MISSING),
         ("0 text a 0 0 0 copy ffffff 65535", MISSING),
@@ -223,14 +175,9 @@ fn lines_and_texts(rt: HostRuntime) -> Result<(), Fail> {
 #[test]
 fn fonts_and_images(rt: HostRuntime) -> Result<(), Fail> {
     let rows = [
-        ("font 1", GOOD),
-        ("font 32", GOOD),
-        ("font 0", RANGE),
-        ("font 33", RANGE),
         ("font", FORM),
         ("glyph 0 1 1 0", GOOD),
         ("glyph 65535 32 ffffffff 00000000", GOOD),
-        ("glyph 65536 1 1 0", RANGE),
         ("glyph 66 33 000000000 000000000", RANGE),
         ("glyph 66 0 0 0", NUMBER),
         ("glyph 66 3 7 8", RANGE),

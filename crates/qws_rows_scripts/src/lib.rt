@@ -6,6 +6,8 @@ mod bad_rows;
 #[cfg(test)]
 mod call_rows;
 #[cfg(test)]
+mod end_rows;
+#[cfg(test)]
 mod form_rows;
 #[cfg(test)]
 mod kind_rows;
