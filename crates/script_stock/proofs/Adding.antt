@@ -2,25 +2,16 @@
 use Rattle.std.proofs.Common.{◌≡◌, ℕ, ◌+◌, ◌<◌, zero, suc, List, [], ◌∷◌, ◌++◌, length, set, get_or, Ok, Err, refl, ap, sym, ◌∙◌, subst, arith}
 use Rattle.glyph_masks.specs.Glyphs.{GlyphView, FontView}
 use Rattle.gfx_fills.specs.Images.{ImageView}
-use Rattle.script_grammar.specs.Session.{Asset, FontLine, GlyphLine, ImageLine, with_glyph, with_asset, fonts_from, fonts_of, images_of, latest}
+use Rattle.script_grammar.specs.Session.{Asset, GlyphLine, with_glyph, fonts_of, images_of, latest}
 use Rattle.script_grammar.specs.Limits.{IsNewGlyph}
 use Rattle.script_grammar.specs.Judging.{◌or_else◌}
 use Rattle.script_grammar.specs.Lines.{font_read, glyph_read, image_read, asset_read}
 use Rattle.script_grammar.specs.declared.lines.Cause.TheVariants.{Form}
 use Rattle.script_grammar.proofs.Heads.{first_is, second_is, asset_printed}
+use Rattle.script_grammar.proofs.Law.{fonts_push, images_push}
 use Rattle.script_stock.specs.Stock.{stock_read, IsStockOf, IsSomeStock, AddsToStock, RefusesLine}
 
 -- ---- one line more
-
-fonts_push : (fonts : List FontView) (before : List Asset) (asset : Asset) → fonts_from fonts (before ++ asset ∷ []) ≡ with_asset (fonts_from fonts before) asset
-fonts_push fonts [] asset = refl
-fonts_push fonts (a ∷ before) asset = fonts_push (with_asset fonts a) before asset
-
-images_push : (before : List Asset) (asset : Asset) → images_of (before ++ asset ∷ []) ≡ images_of before ++ images_of (asset ∷ [])
-images_push [] asset = refl
-images_push (FontLine height ∷ before) asset = images_push before asset
-images_push (GlyphLine glyph ∷ before) asset = images_push before asset
-images_push (ImageLine image ∷ before) asset = ap (λ (rest : List ImageView). image ∷ rest) (images_push before asset)
 
 asset_is : (before : List Asset) (words : List (List ℕ)) → asset_read before words ≡ stock_read (fonts_of before) (images_of before) words
 unfolding asset_read
