@@ -2,7 +2,6 @@
 use Rattle.std.proofs.Common.{◌≡◌, ◌≢◌, ℕ, zero, suc, ◌+◌, ◌-◌, ◌<◌, ◌≤◌, ◌==◌, ◌⊎◌, ⊎_elim, inl, inr, eq-eqb, ne_eqb, if◌then◌else◌, Bool, true, false, not, List, [], ◌∷◌, ◌++◌, length, sym, refl, ap, ◌∙◌, subst, arith, Option, Some, None}
 use Rattle.std.specs.Prelude.{slice_index, slice_index_or, All}
 use Rattle.std.specs.List.{filter}
-use Rattle.std.proofs.lemmas.Bool.Decides.{nat_tests}
 use Rattle.qws_base.specs.Points.{holds, any_holds, point_of, pixel_count}
 use Rattle.qws_base.specs.Scenes.{Setting, has_ink, inked}
 use Rattle.qws_base.specs.Sheets.{Sheet}
@@ -21,13 +20,11 @@ use Rattle.turn_logs.specs.Tables.{table_of}
 use Rattle.turn_logs.proofs.Standing.{gone_carried}
 use Rattle.turn_logs.proofs.Options.{none_some}
 use Rattle.fb_words.specs.declared.known.Client.{Client}
-use Rattle.fb_words.specs.declared.known.Looked.{Looked}
-use Rattle.fb_words.specs.declared.known.Mode.{Mode}
-use Rattle.fb_words.specs.declared.known.Mode.TheVariants.{Idle, Refused, Reading}
 use Rattle.fb_words.specs.Clips.{look_of, looked_in, log_in, slot_in, stamp_in, KeepsClips}
 use Rattle.fb_words.specs.Looks.{OnlyLooks, GoesOn}
-use Rattle.fb_words.specs.Steps.{looked_mode, after_look, after_leave, paint_call, CarriesAtEnd}
+use Rattle.fb_words.specs.Steps.{after_look, after_leave, paint_call, CarriesAtEnd}
 use Rattle.fb_words.specs.Views.{PassView, ScreenView}
+use Rattle.fb_words.proofs.Looks.{look_last, found_at}
 use Rattle.fb_words.proofs.Rows.{look_true}
 use Rattle.display_lock.specs.Turns.{let_in}
 use Rattle.clip_refetch.specs.Clips.{ClipView, IsStored, IsKnown, IsFresh, IsGone, OwnsPixels, FreshLaw, LooksAtRow}
@@ -105,24 +102,6 @@ same_pass p q after c screen limit is =
     ∙ ap (λ n. let r : PassView = record { screen = p.screen; client = c; book_limit = n } in r) limit
 
 -- ---- the answers
-
-look_last : (looked : List Looked) (l : Looked) (x v : ℕ) → look_of (looked ++ l ∷ []) x ≡ Some v → (look_of looked x ≡ Some v) ⊎ (x ≡ l.word)
-look_last [] l x v e = go (l.word == x) refl e
-  where
-    go : (b : Bool) → (l.word == x) ≡ b → (if b then Some l.value else None) ≡ Some v → (let n : Option ℕ = None in n ≡ Some v) ⊎ (x ≡ l.word)
-    go true is e = inr (grind (arith, nat_tests))
-    go false is e = none_some v e
-look_last (m ∷ looked) l x v e = go (m.word == x) e (look_last looked l x v)
-  where
-    go : (b : Bool) → (if b then Some m.value else look_of (looked ++ l ∷ []) x) ≡ Some v → (look_of (looked ++ l ∷ []) x ≡ Some v → (look_of looked x ≡ Some v) ⊎ (x ≡ l.word))
-        → ((if b then Some m.value else look_of looked x) ≡ Some v) ⊎ (x ≡ l.word)
-    go true e r = inl e
-    go false e r = r e
-
-found_at : (m : Mode) (i n x v : ℕ) → look_of (looked_in (looked_mode i n m)) x ≡ Some v → (look_of (looked_in m) x ≡ Some v) ⊎ (x ≡ i)
-found_at Idle i n x v e = inl e
-found_at Refused i n x v e = inl e
-found_at (Reading stamp slot looked log) i n x v e = look_last looked record { word = i; value = n } x v e
 
 stamp_alone : (stamp x v : ℕ) → look_of (record { word = 1; value = stamp } ∷ []) x ≡ Some v → x ≡ 1
 stamp_alone stamp x v e = ⊎_elim (λ (n : (let o : Option ℕ = None in o) ≡ Some v). none_some v n) (λ (is : x ≡ 1). is) (look_last [] record { word = 1; value = stamp } x v e)
