@@ -1,5 +1,5 @@
 -- The log of a step's turn carries the step.
-use Rattle.std.proofs.Common.{◌≡◌, ℕ, ◌<◌, ⊎_elim, Bool, true, false, not, ◌&&◌, if◌then◌else◌, List, [], Some, None, ◌++◌, inl, sym, refl, ap, ◌∙◌, subst}
+use Rattle.std.proofs.Common.{◌≡◌, ℕ, ◌<◌, ⊎_elim, Bool, true, false, not, ◌&&◌, if◌then◌else◌, List, [], Some, None, ◌++◌, ◌⊎◌, inl, inr, append-nil, append_assoc, sym, refl, ap, ◌∙◌, subst}
 use Rattle.std.specs.Prelude.{is_none}
 use Rattle.std.proofs.lemmas.Bool.{cases_Bool, false≢true}
 use Rattle.qws_base.specs.Sides.{Sides}
@@ -19,7 +19,7 @@ use Rattle.region_table.specs.declared.tables.Table.{Table}
 use Rattle.turn_logs.specs.declared.items.Item.{Item}
 use Rattle.turn_logs.specs.Carries.{CarriesStep}
 use Rattle.turn_logs.specs.Lines.{OnlyPicks}
-use Rattle.turn_logs.specs.Phases.{IsTrueLog, lift_items, drop_items}
+use Rattle.turn_logs.specs.Phases.{IsTrueLog, ChangesScene, IsAway, lift_items, drop_items}
 use Rattle.qws_base.specs.declared.windows.Cursor.{Cursor}
 use Rattle.step_turns.proofs.Picked.{true_after}
 use Rattle.turn_logs.proofs.Phases.{phase_law, away_law}
@@ -27,7 +27,7 @@ use Rattle.turn_logs.proofs.Lifting.{cells_law}
 use Rattle.scene_turns.specs.declared.works.Work.{Work}
 use Rattle.scene_turns.specs.declared.works.Work.TheVariants.{Fill, Carry}
 use Rattle.scene_turns.specs.Works.{source}
-use Rattle.scene_turns.specs.Sweeps.{Sweeps}
+use Rattle.scene_turns.specs.Sweeps.{Sweeps, AddsSweep}
 use Rattle.scene_turns.specs.Changes.{IsAsked}
 use Rattle.scene_turns.proofs.Changing.{change_law}
 use Rattle.step_regions.specs.Bared.{is_lost}
@@ -37,7 +37,9 @@ use Rattle.desk_turns.proofs.Asking.{asked_law}
 use Rattle.desk_turns.proofs.Redrawing.{redrawn_law}
 use Rattle.window_core.specs.CoreViews.{PlanView}
 use Rattle.step_turns.specs.declared.changed.Changes.{Changes}
-use Rattle.step_turns.specs.Written.{DrawsOn, Draws, IsStill}
+use Rattle.step_turns.specs.Changes.{IsClear}
+use Rattle.step_turns.specs.Written.{DrawsOn, Draws, IsStill, SweepsBoth, SweepsClear, LeavesCells}
+use Rattle.step_turns.proofs.Away.{clear_away}
 use Rattle.step_turns.proofs.Still.{still_carries}
 
 -- where windows stay, no pixel loses its last owner
@@ -100,12 +102,18 @@ drawn_carries setting before after plan changes log old new is rows asked draws 
     (λ (d : Redraws setting before.cursor plan.cursor changes.carried.falling changes.carried.by changes.carried.region changes.bared setting.backdrop [] log × IsTrueLog log).
     redrawn_law phase_law cells_law change_law setting before after plan.command plan.reply changes.carried.falling changes.carried.by changes.carried.region changes.bared log old (subst IsShape (sym is) new) asked
     (subst (λ (k : Cursor). Redraws setting before.cursor k changes.carried.falling changes.carried.by changes.carried.region changes.bared setting.backdrop [] log) (sym is) d.0) d.1)
+    (λ (rest : SweepsClear setting before.cursor plan changes log ⊎ ((log ≡ []) × IsStill before.cursor plan changes)). ⊎_elim
+    (λ (s : SweepsClear setting before.cursor plan changes log). away_law setting before after plan.command plan.reply log (sym (is ∙ s.cursor))
+    (clear_away setting.size before.cursor changes.carried changes.bared setting.backdrop s.moved s.filled log old s.clear s.carries s.fills s.log_is)
+    (subst (ChangesScene setting before after plan.command plan.reply) (sym s.log_is)
+    (change_law setting before after plan.command plan.reply changes.carried.falling changes.carried.by changes.carried.region changes.bared s.moved s.filled s.carries s.fills asked)))
     (λ (s : (log ≡ []) × IsStill before.cursor plan changes). subst (CarriesStep setting before after plan.command plan.reply) (sym s.0) (⊎_elim
     (λ (none : plan.risen ≡ []). still_carries setting before after plan.command plan.reply (rows none) (sym (is ∙ s.1.cursor)))
     (λ (none : (changes.carried.region ≡ []) × (changes.bared ≡ [])). away_law setting before after plan.command plan.reply [] (sym (is ∙ s.1.cursor)) (λ p cell lt lies. (refl, refl))
     (change_law setting before after plan.command plan.reply changes.carried.falling changes.carried.by changes.carried.region changes.bared [] []
     (no_sweep setting.size changes.carried.region (Carry changes.carried.falling changes.carried.by) none.0) (no_sweep setting.size changes.bared (Fill setting.backdrop) none.1) asked))
     s.1.pixels))
+    rest)
     draws
 
 -- a redrawing that goes on after what was only read
@@ -125,3 +133,43 @@ draws_on setting old old' new plan changes backdrop before after is_old is_new i
       draws = inl (alone, true_after before added only (subst IsTrueLog r.log true_log));
       true_log = true_log;
     }
+
+-- what two sweeps add
+module _ (setting : Setting) (size : Sides) (old : Cursor) (plan : PlanView) (changes : Changes) (backdrop : ℕ) (before after : List Item) (same : setting.size ≡ size) (clear : IsClear size old changes.carried changes.bared)
+    (sweeps : SweepsBoth setting.size changes.carried changes.bared backdrop before after) where
+  abbrev first : AddsSweep setting.size changes.carried.region (Carry changes.carried.falling changes.carried.by) before sweeps.middle
+  first = sweeps.carries
+
+  abbrev second : AddsSweep setting.size changes.bared (Fill backdrop) sweeps.middle after
+  second = sweeps.fills
+
+  abbrev both : List Item
+  both = first.added ++ second.added
+
+  both_added : after ≡ before ++ both
+  both_added = second.log ∙ ap (λ l. l ++ second.added) first.log ∙ append_assoc before first.added second.added
+
+  clear_here : IsClear setting.size old changes.carried changes.bared
+  clear_here = subst (λ (z : Sides). IsClear z old changes.carried changes.bared) (sym same) clear
+
+  -- sweeps clear of a cursor that stays draw what a step asks
+  pub sweeps_on : plan.cursor ≡ old → backdrop ≡ setting.backdrop → IsTrueLog after → DrawsOn setting old plan changes before after
+  sweeps_on stays is_backdrop true_log = record {
+    added = both;
+    log = both_added;
+    draws = inr (inl record { cursor = stays; clear = clear_here; moved = first.added; filled = second.added; log_is = refl; carries = first.sweeps; fills = subst (λ b. Sweeps setting.size changes.bared (Fill b) second.added) is_backdrop second.sweeps });
+    true_log = true_log;
+  }
+
+  -- they leave its cells
+  pub sweeps_leave : IsShape old → LeavesCells size old before after
+  sweeps_leave shape = record {
+    added = both;
+    log = both_added;
+    away = subst (λ (z : Sides). IsAway z old both) same
+        (clear_away setting.size old changes.carried changes.bared backdrop first.added second.added both shape clear_here first.sweeps second.sweeps refl);
+  }
+
+-- a log that stays leaves all cells
+pub stays_leaves : (size : Sides) (old : Cursor) (before after : List Item) → after ≡ before → LeavesCells size old before after
+stays_leaves size old before after same = record { added = []; log = same ∙ sym (append-nil before); away = λ p cell lt lies. (refl, refl) }

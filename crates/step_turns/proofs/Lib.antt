@@ -7,3 +7,5 @@ pub mod Carried
 pub mod Ending
 pub mod Moved
 pub mod Picked
+pub mod Meeting
+pub mod Away

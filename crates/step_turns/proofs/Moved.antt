@@ -1,17 +1,18 @@
 -- A window that an accepted command moves.
-use Rattle.std.proofs.Common.{◌≡◌, ℕ, ◌<◌, ◌==◌, Bool, true, false, ◌||◌, Option, None, Some, List, [], ◌∷◌, refl, sym, ap, ◌∙◌, subst, arith, ℤ, pos, ◌-ℤ◌, ◌≤ℤ◌, to_z, of_z, w32, FitsSigned}
+use Rattle.std.proofs.Common.{◌≡◌, ℕ, ◌<◌, ◌==◌, Bool, true, false, ◌||◌, Option, None, Some, List, [], ◌∷◌, refl, sym, ap, ◌∙◌, subst, arith, ℤ, pos, ◌+ℤ◌, ◌-ℤ◌, ◌≤ℤ◌, to_z, of_z, w32, FitsSigned}
 use Rattle.std.specs.Prelude.{All, negsuc}
 use Rattle.std.proofs.lemmas.Bool.{false≢true}
 use Rattle.std.proofs.lemmas.List.Elements.{All-head, All-tail}
 use Rattle.std.proofs.lemmas.Int.{ints}
 use Rattle.qws_base.specs.Sides.{Sides}
-use Rattle.qws_base.specs.Points.{IsPlaced, minus}
+use Rattle.qws_base.specs.Points.{IsPlaced, minus, shifted}
 use Rattle.qws_base.specs.Arranged.{IsWindow, IsArranged}
 use Rattle.qws_base.specs.States.{State, is_refused}
 use Rattle.qws_base.specs.Steps.{answer, unless, leaves_complex}
 use Rattle.qws_base.specs.Refusals.{no_window, not_yours, off_screen}
 use Rattle.qws_base.specs.Windows.{is_live, origin_of}
 use Rattle.qws_base.specs.declared.points.Point.{Point}
+use Rattle.qws_base.specs.declared.points.Rect.{Rect}
 use Rattle.qws_base.specs.declared.windows.WindowView.{WindowView}
 use Rattle.qws_base.specs.declared.commands.Command.TheVariants.{Move}
 use Rattle.qws_base.specs.declared.replies.Reply.TheVariants.{Done}
@@ -23,6 +24,7 @@ use Rattle.window_core.specs.CoreViews.{CoreView, PlanView, Belongs}
 use Rattle.desk_turns.proofs.Planned.{found_placed}
 use Rattle.desk_turns.proofs.Distances.{two}
 use Rattle.desk_turns.specs.Carried.{IsNear}
+use Rattle.step_turns.specs.Covers.{IsNearby}
 
 second_cause : (a b : Option Refusal) (rest : List (Option Refusal)) → is_refused (unless (a ∷ b ∷ rest) Done) ≡ false → b ≡ None
 second_cause None None rest e = refl
@@ -69,3 +71,23 @@ difference_near x y low_x high_x low_y high_y = subst IsNear (sym (difference_is
 pub distance_is : (a b : Point) → IsPlaced a → IsPlaced b
     → (let d : Point = record { x = to_z w32 (of_z w32 (to_z w32 (of_z w32 a.x) -ℤ to_z w32 (of_z w32 b.x))); y = to_z w32 (of_z w32 (to_z w32 (of_z w32 a.y) -ℤ to_z w32 (of_z w32 b.y))) } in d) ≡ minus a b
 distance_is a b is_a is_b = two _ _ (a.x -ℤ b.x) (a.y -ℤ b.y) (difference_is a.x b.x is_a.low_x is_a.high_x is_b.low_x is_b.high_x) (difference_is a.y b.y is_a.low_y is_a.high_y is_b.low_y is_b.high_y)
+
+-- ---- a place that is moved
+
+fits_wide : (x : ℤ) → negsuc 16383 ≤ℤ x → x ≤ℤ pos 16384 → to_z w32 (of_z w32 x) ≡ x
+fits_wide x low high = omega (arith, ints)
+
+sum_is : (x y : ℤ) → IsNear x → pos 0 ≤ℤ y → y ≤ℤ pos 639 → to_z w32 (of_z w32 (to_z w32 (of_z w32 x) +ℤ to_z w32 (of_z w32 y))) ≡ x +ℤ y
+sum_is x y near low_y high_y =
+    let low_x = near.low in let high_x = near.high in
+    let a : to_z w32 (of_z w32 x) ≡ x = fits_wide x (omega (arith, ints)) (omega (arith, ints)) in
+    let b : to_z w32 (of_z w32 y) ≡ y = fits_wide y (omega (arith, ints)) (omega (arith, ints)) in
+    ap (λ z. to_z w32 (of_z w32 z)) (ap (λ z. z +ℤ to_z w32 (of_z w32 y)) a ∙ ap (λ z. x +ℤ z) b) ∙ fits_wide (x +ℤ y) (omega (arith, ints)) (omega (arith, ints))
+
+same_rect : (x y u v : ℤ) (w h : ℕ) → x ≡ u → y ≡ v → (let a : Rect = record { x = x; y = y; w = w; h = h } in a) ≡ (let b : Rect = record { x = u; y = v; w = w; h = h } in b)
+same_rect x y u v w h e f = ap (λ (t : ℤ). let a : Rect = record { x = t; y = y; w = w; h = h } in a) e ∙ ap (λ (t : ℤ). let a : Rect = record { x = u; y = t; w = w; h = h } in a) f
+
+pub moved_sum : (by : Point) (r : Rect) → IsNear by.x × IsNear by.y → IsNearby r
+    → (let m : Rect = record { x = to_z w32 (of_z w32 (to_z w32 (of_z w32 by.x) +ℤ to_z w32 (of_z w32 r.x))); y = to_z w32 (of_z w32 (to_z w32 (of_z w32 by.y) +ℤ to_z w32 (of_z w32 r.y))); w = r.w; h = r.h } in m) ≡ shifted by r
+moved_sum by r near place = same_rect _ _ (by.x +ℤ r.x) (by.y +ℤ r.y) r.w r.h (sum_is by.x r.x near.0 place.low_x place.high_x)
+    (sum_is by.y r.y near.1 place.low_y (let high = place.high_y in omega (arith, ints)))

@@ -1,15 +1,21 @@
 -- What a planned step changes on the framebuffer, and what its turn changes of the server.
-use Rattle.std.specs.Prelude.{◌≡◌, ℕ, Bool, true, false, All, Option, None, if◌then◌else◌}
-use Rattle.qws_base.specs.Points.{any_holds}
+use Rattle.std.specs.Prelude.{◌≡◌, ℕ, ◌<◌, Bool, true, false, All, List, Option, None, Some, if◌then◌else◌}
+use Rattle.qws_base.specs.Sides.{Sides}
+use Rattle.qws_base.specs.Points.{any_holds, point_of, pixel_count}
 use Rattle.qws_base.specs.RectPixels.{IsWithin}
 use Rattle.qws_base.specs.States.{State, is_refused, moved_slot}
 use Rattle.qws_base.specs.Steps.{step}
 use Rattle.qws_base.specs.declared.points.Point.{Point}
+use Rattle.qws_base.specs.declared.points.Rect.{Rect}
+use Rattle.qws_base.specs.declared.windows.Cursor.{Cursor}
 use Rattle.qws_base.specs.declared.commands.Command.{Command}
 use Rattle.qws_base.specs.declared.commands.Command.TheVariants.{Create, Destroy, Region, Move, Raise, Lower, CursorShape, CursorMove, CursorShow, Join, Leave, Send, Take, IsRegistered}
 use Rattle.window_core.specs.CoreViews.{CoreView, PlanView}
 use Rattle.step_regions.specs.Bared.{is_lost}
+use Rattle.turn_logs.specs.Carries.{ShownCell, shown_cell}
 use Rattle.fb_words.specs.Views.{HeadView}
+use Rattle.scene_turns.specs.Works.{source}
+use Rattle.desk_turns.specs.declared.moves.CarriedPixels.{CarriedPixels}
 use Rattle.desk_turns.specs.Asked.{CarriesFor}
 use Rattle.step_turns.specs.declared.changed.Changes.{Changes}
 
@@ -34,13 +40,21 @@ is_on_cursor (IsRegistered channel) = false
 abbrev pub slot_carried : PlanView → Option ℕ
 slot_carried plan = if is_refused plan.reply then None else moved_slot plan.command
 
--- the pixels that a move carries; those that lose their last owner; and whether the cursor is another
+-- no cell of the shown cursor lies on a pixel that is carried or filled, nor on one from which a pixel is carried
+abbrev pub IsClear : Sides → Cursor → CarriedPixels → List Rect → Type 0
+IsClear size cursor carried bared = (p : ℕ) (cell : ShownCell) → p < pixel_count size → shown_cell size cursor p ≡ Some cell
+    → (any_holds carried.region (point_of size.w p) ≡ false) × (any_holds bared (point_of size.w p) ≡ false)
+    × ((q : ℕ) → q < pixel_count size → any_holds carried.region (point_of size.w q) ≡ true → source carried.falling carried.by q ≡ p → ⊥)
+
+-- the pixels that a move carries; those that lose their last owner; whether the cursor is another, and whether it lies on one of them
 pub record AreChangesOf (core : CoreView) (plan : PlanView) (changes : Changes) : Type 0 where
   pub carried : CarriesFor core.size core.state.windows plan.windows (slot_carried plan) changes.carried.region changes.carried.falling changes.carried.by
   pub bared : (p : Point) → any_holds changes.bared p ≡ is_lost core.size core.state.windows plan.windows p
   pub on_screen : All (IsWithin core.size) changes.bared
   pub same_cursor : changes.points ≡ false → plan.cursor ≡ core.state.cursor
   pub other_cursor : changes.points ≡ true → plan.cursor ≡ core.state.cursor → ⊥
+  pub clear : changes.covered ≡ false → IsClear core.size core.state.cursor changes.carried changes.bared
+  pub covered : changes.covered ≡ true → IsClear core.size core.state.cursor changes.carried changes.bared → ⊥
 
 -- the state after a plan's step
 abbrev pub state_planned : CoreView → PlanView → State

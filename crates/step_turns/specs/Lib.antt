@@ -1,3 +1,4 @@
 pub mod Publishes
+pub mod Covers
 pub mod Changes
 pub mod Written

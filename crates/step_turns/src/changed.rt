@@ -5,20 +5,23 @@ ghost use Rattle.window_core.specs.CoreViews.{Belongs, IsServed};
 ghost use Rattle.desk_turns.specs.Asked.{CarriesFor};
 ghost use Rattle.step_turns.specs.Changes.{AreChangesOf, is_on_cursor, slot_carried};
 
+use crate::covers::{distance, is_covered};
 use band_regions::Region;
-use desk_turns::{CarriedPixels, carried, origin_of};
+use desk_turns::{CarriedPixels, carried};
 use qws_base::{Command, Cursor, OutOfMemory, Reply};
 use std::alloc::Global;
 use step_regions::bared;
 use window_core::{Core, Plan};
 
-/// What a planned step changes on the framebuffer: the pixels that a move carries, those that lose their last owner, and
-/// whether the cursor may be another. They have all memory that the step's turn takes.
+/// What a planned step changes on the framebuffer: the pixels that a move carries, those that lose their last owner, whether
+/// the cursor is another, and whether it covers a pixel that is carried or filled, or from which one is carried. They have all
+/// memory that the step's turn takes.
 #[derive(Debug, Drop)]
 pub struct Changes {
     pub(crate) carried: CarriedPixels,
     pub(crate) bared: Region,
     pub(crate) points: bool,
+    pub(crate) covered: bool,
 }
 
 impl Changes {
@@ -37,10 +40,12 @@ impl Changes {
         let _windows = core.windows();
         let carried = carried_by(alloc, core, plan, command)?;
         let bared = bared(alloc, core, plan)?;
+        let covered = is_covered(core, plan, command, &carried, &bared);
         Ok(Changes {
             carried,
             bared,
             points: points(core, plan, command),
+            covered,
         })
     }
 
@@ -57,6 +62,14 @@ impl Changes {
         ensures drawn { result ≡ true → (self.now.points ≡ true) ⊎ (plan.now.risen ≡ [] → ⊥) }
     {
         self.points || (!plan.risen().is_empty() && self.have_pixels())
+    }
+
+    // Whether the cursor is lifted where the framebuffer is drawn: it is another, or it covers a pixel that is concerned.
+    pub(crate) fn lift_cursor(&self) -> bool
+        ensures off { result ≡ false → (self.now.points ≡ false) × (self.now.covered ≡ false) }
+        ensures on { result ≡ true → (self.now.points ≡ true) ⊎ (self.now.covered ≡ true) }
+    {
+        self.points || self.covered
     }
 }
 
@@ -124,16 +137,8 @@ fn carried_to(
     requires slot { slot < 32 }
     ensures { IfOk result (λ c. CarriesFor core.now.size core.now.state.windows plan.now.windows (Some slot) c.region c.falling c.by) }
 {
-    let before = origin_of(core.windows(), slot);
-    let after = origin_of(plan.windows(), slot);
-    carried(
-        alloc,
-        core,
-        plan,
-        slot,
-        after.x - before.x,
-        after.y - before.y,
-    )
+    let by = distance(core, plan, slot);
+    carried(alloc, core, plan, slot, by.x, by.y)
 }
 
 // The pixels that a plan's step carries.

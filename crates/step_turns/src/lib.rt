@@ -2,6 +2,7 @@
 #![tactic(auto)]
 
 mod changed;
+mod covers;
 mod laws;
 mod publishing;
 

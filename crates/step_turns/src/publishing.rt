@@ -1,8 +1,11 @@
 //! The server's turn of a planned step.
-ghost use Rattle.std.specs.Prelude.{◌≡◌, ◌+◌, ◌^◌, ◌<◌, [], All, false, length};
+ghost use Rattle.std.specs.Prelude.{◌≡◌, ℕ, ◌+◌, ◌^◌, ◌<◌, [], All, false, true, length};
 ghost use mathlib.Core.Option.{some};
 ghost use lib.ListN.{get_elem?};
 ghost use Rattle.qws_base.specs.Sides.{IsScreen};
+ghost use Rattle.qws_base.specs.Colours.{IsSceneColour};
+ghost use Rattle.qws_base.specs.Points.{any_holds, point_of, pixel_count};
+ghost use Rattle.qws_base.specs.RectPixels.{IsWithin};
 ghost use Rattle.qws_base.specs.Scenes.{setting_of};
 ghost use Rattle.qws_base.specs.declared.journals.JournalEntry.{JournalEntry};
 ghost use Rattle.region_table.specs.Numbers.{first_pixel, stamp_at};
@@ -14,16 +17,21 @@ ghost use Rattle.fb_words.specs.Steps.{IsNextTable, CarriesAtGive};
 ghost use Rattle.display_lock.specs.Turns.{IsOpenServer, SameServerTurn};
 ghost use Rattle.window_core.specs.CoreViews.{Belongs, IsServed};
 ghost use Rattle.sw_cursor.specs.Lifts.{OnlyLogs};
+ghost use Rattle.scene_turns.specs.declared.works.Work.TheVariants.{Carry};
+ghost use Rattle.scene_turns.specs.Works.{CanWork};
 ghost use Rattle.table_turns.specs.Writes.{OnlyTable, Sets};
 ghost use Rattle.desk_turns.specs.Cursors.{Respells};
 ghost use Rattle.desk_turns.specs.Rows.{WritesRows};
 ghost use Rattle.step_turns.specs.Publishes.{Publishes};
-ghost use Rattle.step_turns.specs.Changes.{AreChangesOf, OnlyTurn, state_planned};
-ghost use Rattle.step_turns.specs.Written.{DrawsOn, GoesOn, WritesTable};
+ghost use Rattle.step_turns.specs.Changes.{AreChangesOf, IsClear, OnlyTurn, state_planned};
+ghost use Rattle.step_turns.specs.Written.{DrawsOn, GoesOn, LeavesCells, SweepsBoth, WritesTable};
 
 use crate::changed::Changes;
-use desk_turns::{redraw, write_cursor, write_rows};
+use band_regions::Region;
+use desk_turns::{CarriedPixels, redraw, write_cursor, write_rows};
 use display_lock::ServerTurn;
+use qws_base::Rgb;
+use scene_turns::{carry, fill};
 use table_turns::write_stamp;
 use window_core::{Core, Plan};
 
@@ -34,7 +42,25 @@ fn cells_are_words(cells: &[u32])
     let _cells = cells;
 }
 
-// Redraws the framebuffer where the step has something to draw.
+// Carries pixels, and fills the bared ones with the backdrop, while the cursor lies where it lay.
+fn sweep(turn: &mut ServerTurn, carried: &CarriedPixels, bared: &Region, backdrop: Rgb)
+    requires open { IsOpenServer turn.old }
+    requires carried { All (IsWithin turn.old.screen.now.setting.size) carried.now.region }
+    requires sources { (p : ℕ) → p < pixel_count turn.old.screen.now.setting.size → any_holds carried.now.region (point_of turn.old.screen.now.setting.size.w p) ≡ true → CanWork turn.old.screen.now.setting (Carry carried.now.falling carried.now.by) p }
+    requires bared { All (IsWithin turn.old.screen.now.setting.size) bared.now }
+    requires backdrop { IsSceneColour turn.old.screen.now.setting.depth backdrop }
+    ensures same { SameServerTurn turn.old turn.new }
+    ensures open { IsOpenServer turn.new }
+    ensures head { OnlyLogs turn.old.head.now turn.new.head.now }
+    ensures log { SweepsBoth turn.old.screen.now.setting.size carried.now bared.now backdrop turn.old.head.now.server.log turn.new.head.now.server.log }
+    ensures true_log { IsTrueLog turn.old.head.now.server.log → IsTrueLog turn.new.head.now.server.log }
+{
+    carry(turn, &carried.region, carried.falling, carried.by);
+    fill(turn, bared, backdrop);
+}
+
+// Redraws the framebuffer where the step has something to draw. The cursor is lifted only where it is another, or covers a pixel
+// that is concerned.
 fn draw(turn: &mut ServerTurn, core: &Core, plan: &Plan, changes: &Changes)
     requires open { IsOpenServer turn.old }
     requires reads { OnlyPicks turn.old.head.now.server.log }
@@ -50,16 +76,21 @@ fn draw(turn: &mut ServerTurn, core: &Core, plan: &Plan, changes: &Changes)
     ensures head { OnlyLogs turn.old.head.now turn.new.head.now }
     ensures quiet { plan.now.risen ≡ [] → plan.now.cursor ≡ core.now.state.cursor → turn.new.head.now.server.log ≡ turn.old.head.now.server.log }
     ensures log { DrawsOn turn.old.screen.now.setting core.now.state.cursor plan.now changes.now turn.old.head.now.server.log turn.new.head.now.server.log }
+    ensures away { IsClear core.now.size core.now.state.cursor changes.now.carried changes.now.bared → plan.now.cursor ≡ core.now.state.cursor → LeavesCells core.now.size core.now.state.cursor turn.old.head.now.server.log turn.new.head.now.server.log }
 {
     if changes.are_drawn(plan) {
         let backdrop = turn.screen().depth().scene(core.backdrop());
-        redraw(
-            turn,
-            &changes.carried,
-            &changes.bared,
-            backdrop,
-            plan.cursor(),
-        );
+        if changes.lift_cursor() {
+            redraw(
+                turn,
+                &changes.carried,
+                &changes.bared,
+                backdrop,
+                plan.cursor(),
+            );
+        } else {
+            sweep(turn, &changes.carried, &changes.bared, backdrop);
+        }
     }
 }
 
@@ -119,9 +150,9 @@ fn write_table(turn: &mut ServerTurn, core: &Core, plan: &Plan, changes: &Change
 }
 
 /// The whole work of a server's turn for a plan, which was made from the state that the present table publishes; a refused plan
-/// too. The turn has read at most, and `number` is its own: one more than there are closed turns. Where the cursor is another,
-/// or a pixel is to be carried or filled, the cursor is lifted off the framebuffer, what a move carries is copied, the backdrop
-/// is put where a pixel lost its last owner, and the cursor is put down. The rows of the slots whose revision rises are
+/// too. The turn has read at most, and `number` is its own: one more than there are closed turns. What a move carries is copied,
+/// and the backdrop is put where a pixel lost its last owner; where the cursor is another, or covers a pixel that is written or
+/// copied, it is lifted off the framebuffer before, and put down after that. The rows of the slots whose revision rises are
 /// written, then the words of the cursor that differ, and then the stamp. So a step that changes no row and no cursor writes
 /// the stamp alone. It takes no memory.
 ///
@@ -146,6 +177,7 @@ pub fn publish(turn: &mut ServerTurn, core: &Core, plan: &Plan, changes: &Change
     ensures publishes { Publishes core.now.size (length turn.old.head.now.server.limits) number (state_planned core.now plan.now) turn.new.head.now.server.present }
     ensures grows { GoesOn turn.old.head.now.server.log turn.new.head.now.server.log }
     ensures quiet { plan.now.risen ≡ [] → plan.now.cursor ≡ core.now.state.cursor → (turn.new.head.now.server.log ≡ turn.old.head.now.server.log) × Sets stamp_at 1 (λ k. number) turn.old.head.now.server.present turn.new.head.now.server.present }
+    ensures away { IsClear core.now.size core.now.state.cursor changes.now.carried changes.now.bared → plan.now.cursor ≡ core.now.state.cursor → LeavesCells core.now.size core.now.state.cursor turn.old.head.now.server.log turn.new.head.now.server.log }
     ensures left { IsTableOf core.now.size (state_planned core.now plan.now) number (table_of turn.new.head.now.server.present) }
 {
     let _width = core.size().w();

@@ -77,3 +77,6 @@ returns-clause-quiet c = λ none same. let w : WritesTable c.args.core.now c.arg
   ap (λ (s : Server). s.log) (server_after c) ∙ c.draw.ensures.quiet none same,
   subst (λ (l : List ℕ). Sets stamp_at 1 (λ k. c.args.number) l c.write_table.new.turn.head.now.server.present) (w.same_cursor same ∙ w.same_rows none) w.stamp,
 )
+
+pub returns-clause-away : goal.returns-clause-away
+returns-clause-away c = λ clear stays. let leaves = c.draw.ensures.away clear stays in record { added = leaves.added; log = ap (λ (s : Server). s.log) (server_after c) ∙ leaves.log; away = leaves.away }
