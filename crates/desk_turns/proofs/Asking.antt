@@ -12,10 +12,11 @@ use Rattle.region_table.specs.Published.{TellSame}
 use Rattle.region_table.proofs.Telling.{published_law}
 use Rattle.region_table.proofs.SameScenes.{carried_same}
 use Rattle.turn_logs.specs.Carries.{source_of, is_bared}
-use Rattle.scene_turns.specs.Works.{source, HasSource}
+use Rattle.step_regions.specs.Carried.{source, HasSource}
 use Rattle.scene_turns.specs.Changes.{IsAsked, is_in}
-use Rattle.desk_turns.specs.Asked.{CarriesFor, AskedLaw}
-use Rattle.desk_turns.proofs.Distances.{pixel_on}
+use Rattle.desk_turns.specs.Asked.{AskedLaw}
+use Rattle.step_regions.specs.Carried.{CarriesFor}
+use Rattle.step_regions.proofs.Distances.{pixel_on}
 
 some_columns : (w h p : ℕ) → p < w * h → 0 < w
 some_columns zero h p below = absurd (omega arith)

@@ -1,20 +1,17 @@
 -- Rows after a plan's step, one slot after another.
-use Rattle.std.proofs.Common.{◌≡◌, ℕ, suc, ◌<◌, ◌≤◌, ◌==◌, ⊎_elim, Bool, true, false, not, ◌&&◌, cond, if◌then◌else◌, List, [], ◌∷◌, ◌++◌, length, Some, None, sym, refl, ap, ◌∙◌, subst, arith}
-use Rattle.std.specs.Prelude.{is_none, All, pos, negsuc, ◌≤ℤ◌, ℤ, int_le, slice_index_or}
-use Rattle.std.specs.List.{find, Contains}
-use Rattle.std.specs.Option.{option_map_or}
+use Rattle.std.proofs.Common.{◌≡◌, ℕ, ◌<◌, ◌≤◌, ⊎_elim, Bool, List, [], ◌∷◌, ◌++◌, length, sym, refl, ◌∙◌, subst, arith}
+use Rattle.std.specs.Prelude.{All, slice_index_or}
+use Rattle.std.specs.List.{Contains}
 use Rattle.std.proofs.lemmas.Int.{ints}
-use Rattle.std.proofs.lemmas.Bool.{and_parts, cases_eq, false≢true}
+use Rattle.std.proofs.lemmas.Bool.{and_parts, cases_eq}
 use Rattle.std.proofs.lemmas.List.{get_or-set_same, get_or-set_other, length-set}
 use Rattle.std.proofs.lemmas.List.Elements.{Contains-append_left, Contains-push, Contains-push_cases}
 use Rattle.qws_base.specs.Sides.{Sides, IsScreen}
-use Rattle.qws_base.specs.Points.{is_on_screen, origin_zero, IsPlaced}
+use Rattle.qws_base.specs.Points.{is_on_screen}
 use Rattle.qws_base.specs.Regions.{IsRegionOf, IsOnScreen, rect_count}
 use Rattle.qws_base.specs.RectPixels.{IsWithin}
-use Rattle.qws_base.specs.Windows.{origin_of, has_slot, allocated_points, owner_at, is_slot}
-use Rattle.qws_base.specs.Refusals.{off_screen, is_coordinate, rects_needed}
-use Rattle.qws_base.specs.declared.replies.Refusal.TheVariants.{OffScreen}
-use Rattle.qws_base.specs.Arranged.{IsWindow}
+use Rattle.qws_base.specs.Windows.{allocated_points, owner_at, is_slot}
+use Rattle.qws_base.specs.Refusals.{rects_needed}
 use Rattle.qws_base.specs.declared.points.Point.{Point}
 use Rattle.qws_base.specs.declared.points.Rect.{Rect}
 use Rattle.qws_base.specs.declared.windows.WindowView.{WindowView}
@@ -27,28 +24,6 @@ use Rattle.table_turns.specs.Writes.{WrittenLaw, with_row}
 use Rattle.desk_turns.specs.Rows.{IsPlannedRow, WritesPlanned, SpellsRows, WritesRows}
 
 -- ---- what has a place in the words
-
-placed_point : (p : Point) → off_screen p ≡ None → IsPlaced p
-placed_point p none = go (is_coordinate p.x) (is_coordinate p.y) refl refl none
-  where
-    near : (x : ℤ) → is_coordinate x ≡ true → (negsuc 4095 ≤ℤ x) × (x ≤ℤ pos 4095)
-    near x e = let parts = and_parts (int_le (negsuc 4095) x) (int_le x (pos 4095)) e in (grind (arith, ints), grind (arith, ints))
-
-    go : (a b : Bool) → is_coordinate p.x ≡ a → is_coordinate p.y ≡ b → (if not (a && b) then Some (OffScreen p.x p.y) else None) ≡ None → IsPlaced p
-    go true true a b e = let x = near p.x a in let y = near p.y b in record { low_x = x.0; high_x = x.1; low_y = y.0; high_y = y.1 }
-    go true false a b e = absurd (false≢true (ap is_none e))
-    go false y a b e = absurd (false≢true (ap is_none e))
-
-zero_placed : IsPlaced origin_zero
-zero_placed = record { low_x = omega (arith, ints); high_x = omega (arith, ints); low_y = omega (arith, ints); high_y = omega (arith, ints) }
-
-pub found_placed : (slot : ℕ) (windows : List WindowView) → All IsWindow windows → IsPlaced (origin_of windows slot)
-found_placed slot [] ok = zero_placed
-found_placed slot (w ∷ ws) ok = go (w.slot == slot) (found_placed slot ws (λ k d below. ok (suc k) d (omega arith)))
-  where
-    go : (b : Bool) → IsPlaced (option_map_or (λ (v : WindowView). v.origin) (find (has_slot slot) ws) origin_zero) → IsPlaced (option_map_or (λ (v : WindowView). v.origin) (cond b (Some w) (find (has_slot slot) ws)) origin_zero)
-    go true rest = placed_point w.origin (ok 0 w (omega arith)).placed
-    go false rest = rest
 
 packable : (size : Sides) (r : Rect) → IsScreen size → IsWithin size r → IsPackable r
 packable size r screen on =

@@ -1,25 +1,17 @@
 -- What an accepted step asks of the regions that it changes.
-use Rattle.std.specs.Prelude.{◌≡◌, ℕ, ◌<◌, Bool, false, List, [], Option, Some, None}
-use Rattle.qws_base.specs.Sides.{Sides}
-use Rattle.qws_base.specs.Points.{any_holds, pixel_count, minus}
+use Rattle.std.specs.Prelude.{◌≡◌, ℕ, ◌<◌, Bool, false, List}
+use Rattle.qws_base.specs.Points.{any_holds, pixel_count}
 use Rattle.qws_base.specs.Scenes.{Setting}
 use Rattle.qws_base.specs.States.{State, is_refused, moved_slot}
-use Rattle.qws_base.specs.Windows.{origin_of}
 use Rattle.qws_base.specs.declared.points.Point.{Point}
 use Rattle.qws_base.specs.declared.points.Rect.{Rect}
-use Rattle.qws_base.specs.declared.windows.WindowView.{WindowView}
 use Rattle.qws_base.specs.declared.commands.Command.{Command}
 use Rattle.qws_base.specs.declared.replies.Reply.{Reply}
 use Rattle.region_table.specs.Published.{IsTableOf, AreSlotted}
 use Rattle.region_table.specs.declared.tables.Table.{Table}
 use Rattle.scene_turns.specs.Changes.{IsAsked}
 use Rattle.step_regions.specs.Bared.{is_lost}
-use Rattle.desk_turns.specs.Carried.{IsCarried}
-
--- the region has the pixels that the move of a slot carries; without a move it has none
-abbrev pub CarriesFor : Sides → List WindowView → List WindowView → Option ℕ → List Rect → Bool → ℕ → Type 0
-CarriesFor size before after None region falling by = region ≡ []
-CarriesFor size before after (Some slot) region falling by = IsCarried size before after slot (minus (origin_of after slot) (origin_of before slot)) region falling by
+use Rattle.step_regions.specs.Carried.{CarriesFor}
 
 -- the carried and the lost pixels are what an accepted command asks, as the tables of the states before and after it tell
 abbrev pub AskedLaw : Type 0

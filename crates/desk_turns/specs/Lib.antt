@@ -1,5 +1,4 @@
 pub mod Asked
-pub mod Carried
 pub mod Cursors
 pub mod Redraws
 pub mod Rows

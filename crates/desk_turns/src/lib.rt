@@ -3,14 +3,10 @@
 
 mod cursors;
 mod laws;
-mod moves;
 mod rows;
 mod scenes;
-mod windows;
 
 pub use cursors::write_cursor;
 pub use laws::{redrawn_steps_are_carried, steps_ask_for_regions};
-pub use moves::{CarriedPixels, carried};
 pub use rows::write_rows;
 pub use scenes::redraw;
-pub use windows::origin_of;

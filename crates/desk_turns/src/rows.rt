@@ -7,9 +7,9 @@ ghost use Rattle.display_lock.specs.Turns.{IsOpenServer, SameServerTurn};
 ghost use Rattle.table_turns.specs.Writes.{OnlyTable};
 ghost use Rattle.desk_turns.specs.Rows.{WritesPlanned, WritesRows};
 
-use crate::windows::{origin_of, owner_of};
 use band_regions::count_of_corners;
 use display_lock::ServerTurn;
+use step_regions::{origin_of, owner_of};
 use table_turns::{tables_are_written, write_row};
 use window_core::Plan;
 

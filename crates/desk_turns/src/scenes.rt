@@ -12,11 +12,11 @@ ghost use Rattle.scene_turns.specs.declared.works.Work.TheVariants.{Carry};
 ghost use Rattle.scene_turns.specs.Works.{CanWork};
 ghost use Rattle.desk_turns.specs.Redraws.{Redraws};
 
-use crate::moves::CarriedPixels;
 use band_regions::Region;
 use display_lock::ServerTurn;
 use qws_base::{Cursor, Rgb};
 use scene_turns::{carry, fill};
+use step_regions::CarriedPixels;
 use sw_cursor::{drop_at, lift};
 
 /// Lifts the cursor of the present table off the framebuffer, carries pixels, fills the bared ones with the backdrop, which is

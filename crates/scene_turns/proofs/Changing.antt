@@ -12,7 +12,7 @@ use Rattle.turn_logs.specs.Phases.{uncovered}
 use Rattle.turn_logs.proofs.Joining.{on-append}
 use Rattle.turn_logs.proofs.Carrying.{first_picks-append, last_later, last_earlier}
 use Rattle.scene_turns.specs.declared.works.Work.TheVariants.{Fill}
-use Rattle.scene_turns.specs.Works.{source}
+use Rattle.step_regions.specs.Carried.{source}
 use Rattle.scene_turns.specs.Sweeps.{Sweeps}
 use Rattle.scene_turns.specs.Changes.{is_in, IsAsked, ChangeLaw}
 

@@ -8,7 +8,8 @@ use Rattle.turn_logs.specs.Carries.{FirstPicks, last_put, or_later}
 use Rattle.turn_logs.proofs.Lifting.{on_yes, on_no}
 use Rattle.scene_turns.specs.declared.works.Work.{Work}
 use Rattle.scene_turns.specs.declared.works.Work.TheVariants.{Fill, Carry}
-use Rattle.scene_turns.specs.Works.{is_falling, source, work_log}
+use Rattle.scene_turns.specs.Works.{is_falling, work_log}
+use Rattle.step_regions.specs.Carried.{source}
 use Rattle.scene_turns.specs.Sweeps.{IsDone, IsTouched}
 use Rattle.scene_turns.proofs.Order.{Has, InOrder, Before}
 

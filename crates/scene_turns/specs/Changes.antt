@@ -11,7 +11,7 @@ use Rattle.turn_logs.specs.declared.items.Item.{Item}
 use Rattle.turn_logs.specs.Carries.{source_of, is_bared}
 use Rattle.turn_logs.specs.Phases.{ChangesScene}
 use Rattle.scene_turns.specs.declared.works.Work.TheVariants.{Fill, Carry}
-use Rattle.scene_turns.specs.Works.{source}
+use Rattle.step_regions.specs.Carried.{source}
 use Rattle.scene_turns.specs.Sweeps.{Sweeps}
 
 -- the pixel is one of the rectangles'

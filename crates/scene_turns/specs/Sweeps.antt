@@ -10,7 +10,8 @@ use Rattle.turn_logs.specs.Lines.{on}
 use Rattle.turn_logs.specs.Carries.{FirstPicks, last_put}
 use Rattle.scene_turns.specs.declared.works.Work.{Work}
 use Rattle.scene_turns.specs.declared.works.Work.TheVariants.{Fill, Carry}
-use Rattle.scene_turns.specs.Works.{place, source, stretch_pixels}
+use Rattle.scene_turns.specs.Works.{place, stretch_pixels}
+use Rattle.step_regions.specs.Carried.{source}
 
 -- ---- the order in which a region is swept
 

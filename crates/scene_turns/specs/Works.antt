@@ -1,9 +1,10 @@
 -- What is done on pixels, one after another, and what that adds to the log of a server turn.
-use Rattle.std.specs.Prelude.{◌≡◌, ℕ, ◌+◌, ◌-◌, ◌<◌, ◌≤◌, Bool, true, false, List, [], ◌∷◌, ◌++◌, map}
+use Rattle.std.specs.Prelude.{◌≡◌, ℕ, ◌+◌, ◌-◌, ◌<◌, Bool, true, false, List, [], ◌∷◌, ◌++◌, map}
 use Rattle.std.specs.List.{flat_map, range_with_len}
 use Rattle.qws_base.specs.Colours.{IsSceneColour}
 use Rattle.qws_base.specs.Points.{pixel_count}
 use Rattle.qws_base.specs.Scenes.{Setting}
+use Rattle.step_regions.specs.Carried.{source, HasSource}
 use Rattle.region_table.specs.Numbers.{pixel_word}
 use Rattle.turn_logs.specs.declared.items.Item.{Item}
 use Rattle.turn_logs.specs.declared.items.Item.TheVariants.{Pick, Put}
@@ -22,16 +23,6 @@ place false n j = j
 place true n j = n - 1 - j
 
 -- ---- pixels
-
--- the pixel whose colour is brought to p: so many places ahead, or falling so many behind
-abbrev pub source : Bool → ℕ → ℕ → ℕ
-source false by p = p + by
-source true by p = p - by
-
--- the source of p is a pixel
-abbrev pub HasSource : Setting → Bool → ℕ → ℕ → Type 0
-HasSource setting false by p = p + by < pixel_count setting.size
-HasSource setting true by p = by ≤ p
 
 -- the work can be done on pixel p
 abbrev pub CanWork : Setting → Work → ℕ → Type 0

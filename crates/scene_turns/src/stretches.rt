@@ -8,7 +8,8 @@ ghost use Rattle.turn_logs.specs.Phases.{IsTrueLog};
 ghost use Rattle.display_lock.specs.Turns.{IsOpenServer, SameServerTurn};
 ghost use Rattle.sw_cursor.specs.Lifts.{OnlyLogs};
 ghost use Rattle.scene_turns.specs.declared.works.Work.TheVariants.{Fill, Carry};
-ghost use Rattle.scene_turns.specs.Works.{CanWork, HasSource, Works, is_falling, source, stretch_pixels};
+ghost use Rattle.scene_turns.specs.Works.{CanWork, Works, is_falling, stretch_pixels};
+ghost use Rattle.step_regions.specs.Carried.{HasSource, source};
 
 use crate::works::{Work, pixel_place};
 use display_lock::ServerTurn;

@@ -3,7 +3,6 @@ use Rattle.std.proofs.Common.{◌≡◌, ℕ, ◌+◌, ◌<◌, ◌≤◌, ◌^�
 use Rattle.std.specs.Option.{option_to_list}
 use Rattle.std.proofs.lemmas.List.{length-take-le}
 use Rattle.std.proofs.lemmas.Option.{slice_get_within}
-use Rattle.qws_base.specs.Scenes.{Setting}
 use Rattle.qws_base.specs.Histories.{Entry, client_of_entry, calls_of, world_after}
 use Rattle.script_grammar.specs.Session.{Session, session_setting, lines_by, call_line}
 use Rattle.script_grammar.specs.Limits.{IsSession}
@@ -17,6 +16,7 @@ use Rattle.session_replay.proofs.Named.{is_next, entry_client}
 use Rattle.session_replay.proofs.Calls.{few_filtered}
 use Rattle.session_replay.proofs.Counts.{known_clients}
 use Rattle.session_replay.proofs.Revisions.{can_rise}
+use Rattle.session_replay.proofs.Bare.{world_screen, world_bare}
 use Rattle.session_replay.proofs.LineOrder.{no_line, line_at, front, order_client, order_within, order_next, order_length}
 
 -- the entry of a client's next call is the client's
@@ -71,7 +71,8 @@ ready session clients client replay limits known left few behind =
       left = omega (arith, left, mine.made);
       few = omega (arith, few, mine.made, few_filtered (λ (e : Entry). client_of_entry e == client) h, named_length session clients);
       room = can_rise session h replay.core replay.canvas (omega (arith, few, named_length session clients)) behind.world;
-      size = ap (λ (s : Setting). s.size) behind.world.setting ∙ sym behind.world.size;
+      screen = world_screen session h replay.core replay.canvas behind.world;
+      bare = world_bare session h replay.core replay.canvas behind.world;
     }
 
 -- so is the client of a line

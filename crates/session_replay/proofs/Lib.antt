@@ -1,13 +1,13 @@
 pub mod Counts
 pub mod Named
 pub mod LineOrder
-pub mod Placed
 pub mod Turns
 pub mod Calls
 pub mod Opening
 pub mod Going
 pub mod Finishing
 pub mod Revisions
+pub mod Bare
 pub mod Painted
 pub mod Running
 pub mod Due

@@ -38,13 +38,14 @@ callers_push session callers new each is client d below = elim (cases_lt client 
       subst (λ k. IsCaller session [] k (get_or (callers ++ new ∷ []) k d)) same (subst (IsCaller session [] (length callers)) (sym (get_or-append_seam callers new [] d)) is)
 ]
 
-pub opening_replay_world : (session : Session) (core : CoreView) (canvas : Drawn) (size : Sides) (depth : Depth) (backdrop shown : ℕ) → size ≡ session.size → depth ≡ session.depth → shown ≡ session.backdrop
+pub opening_replay_world : (session : Session) (core : CoreView) (canvas : Drawn) (size : Sides) (depth : Depth) (backdrop shown : ℕ) → size ≡ session.size → depth ≡ session.depth → backdrop ≡ session.backdrop → shown ≡ session.backdrop
     → core ≡ record { size = size; backdrop = backdrop; state = opening_state } → canvas ≡ record { setting = setting_of size depth shown; scene = opening_scene (setting_of size depth shown) } → IsWorld session [] core canvas
-opening_replay_world session core canvas size depth backdrop shown size_is depth_is shown_is core_is canvas_is =
+opening_replay_world session core canvas size depth backdrop shown size_is depth_is backdrop_is shown_is core_is canvas_is =
     let setting : setting_of size depth shown ≡ session_setting session =
     ap (λ (s : Sides). setting_of s depth shown) size_is ∙ ap (λ (d : Depth). setting_of session.size d shown) depth_is ∙ ap (setting_of session.size session.depth) shown_is in
     record {
       size = ap (λ (v : CoreView). v.size) core_is ∙ size_is;
+      backdrop = ap (λ (v : CoreView). v.backdrop) core_is ∙ backdrop_is;
       setting = ap (λ (d : Drawn). d.setting) canvas_is ∙ setting;
       state = ap (λ (v : CoreView). v.state) core_is;
       scene = ap (λ (d : Drawn). d.scene) canvas_is ∙ ap opening_scene setting;

@@ -27,12 +27,13 @@ use Rattle.session_replay.proofs.Named.{world_more, calls_more}
 
 -- ---- the world
 
-pub world_next : (session : Session) (h : List Entry) (e : Entry) (core new_core : CoreView) (canvas new_canvas : Drawn) → IsWorld session h core canvas → new_core.size ≡ core.size → new_canvas.setting ≡ canvas.setting → IsNextWorld (session_setting session) (world_after (session_setting session) h) e new_core.state new_canvas.scene → IsWorld session (h ++ e ∷ []) new_core new_canvas
-world_next session h e core new_core canvas new_canvas is size setting next =
+pub world_next : (session : Session) (h : List Entry) (e : Entry) (core new_core : CoreView) (canvas new_canvas : Drawn) → IsWorld session h core canvas → new_core.size ≡ core.size → new_core.backdrop ≡ core.backdrop → new_canvas.setting ≡ canvas.setting → IsNextWorld (session_setting session) (world_after (session_setting session) h) e new_core.state new_canvas.scene → IsWorld session (h ++ e ∷ []) new_core new_canvas
+world_next session h e core new_core canvas new_canvas is size backdrop setting next =
     let setting_is : Setting = session_setting session in
     let after : world_after setting_is (h ++ e ∷ []) ≡ next_world setting_is (world_after setting_is h) e = world_more setting_is (opening_world setting_is) h e in
     record {
       size = size ∙ is.size;
+      backdrop = backdrop ∙ is.backdrop;
       setting = setting ∙ is.setting;
       state = next.state_is ∙ ap (λ (w : World). w.state) (sym after);
       scene = next.scene_is ∙ ap (λ (w : World). w.scene) (sym after);

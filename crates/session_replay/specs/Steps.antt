@@ -3,9 +3,11 @@ use Rattle.std.specs.Prelude.{ℕ, ◌≡◌, ◌<◌, ◌≤◌, ◌+◌, ◌^�
 use lib.Chars.{codes}
 use Rattle.std.specs.List.{flat_map}
 use Rattle.qws_base.specs.States.{State}
-use Rattle.qws_base.specs.Scenes.{Setting}
+use Rattle.qws_base.specs.Windows.{layout_of}
+use Rattle.qws_base.specs.Scenes.{Setting, setting_of}
 use Rattle.qws_base.specs.Histories.{Entry, World, calls_of, next_world, world_after}
 use Rattle.qws_base.specs.Histories.Entry.{Step as StepEntry, Paint as PaintEntry}
+use Rattle.turn_logs.specs.Carries.{IsBare}
 use Rattle.window_core.specs.CoreViews.{CoreView, CanRise}
 use Rattle.pixel_model.specs.Drawn.{Drawn}
 use Rattle.session_journal.specs.Texts.{told_call, comments, line_text, reply_words, paint_words}
@@ -61,6 +63,7 @@ AreAllMade callers = All (λ caller. caller.made ≡ caller.calls) callers
 -- core and canvas are the world after a history
 pub record IsWorld (session : Session) (h : List Entry) (core : CoreView) (canvas : Drawn) : Type 0 where
   pub size : core.size ≡ session.size
+  pub backdrop : core.backdrop ≡ session.backdrop
   pub setting : canvas.setting ≡ session_setting session
   pub state : core.state ≡ (world_after (session_setting session) h).state
   pub scene : canvas.scene ≡ (world_after (session_setting session) h).scene
@@ -75,7 +78,7 @@ pub record IsReplay (session : Session) (h : List Entry) (replay : Replay) : Typ
   pub world : IsWorld session h replay.core replay.canvas
   pub callers : AreCallers session h replay.callers.items
 
--- a client has a call left, and no number is at its end
+-- a client has a call left, no number is at its end, and the canvas has the backdrop where no window owns the pixel
 pub record IsReady (session : Session) (client : ℕ) (replay : Replay) (caller : Caller) : Type 0 where
   pub within : client < length replay.callers.items
   pub sixteen : client < 16
@@ -83,7 +86,8 @@ pub record IsReady (session : Session) (client : ℕ) (replay : Replay) (caller 
   pub left : caller.made < length (lines_by client session.calls)
   pub few : caller.made + 1 < 2 ^ 64
   pub room : CanRise replay.core.state
-  pub size : replay.canvas.setting.size ≡ replay.core.size
+  pub screen : replay.canvas.setting ≡ setting_of replay.core.size replay.canvas.setting.depth replay.core.backdrop
+  pub bare : IsBare replay.canvas.setting (layout_of replay.core.size replay.core.state.windows) replay.canvas.scene
 
 -- the caller of a client
 abbrev pub caller_at : Replay → ℕ → Caller

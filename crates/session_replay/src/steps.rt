@@ -1,11 +1,12 @@
 //! The calls of a session, one at a time, over a core and a canvas.
 ghost use Rattle.std.specs.Prelude.{◌≡◌, ◌++◌, ◌+◌, ◌^◌, ℕ, Some, ◌<◌, IfOk, OnOk, length};
 ghost use Rattle.std.specs.Option.{option_map};
-ghost use Rattle.qws_base.specs.States.{is_refused, moved_slot};
 ghost use Rattle.qws_base.specs.Steps.{step};
-ghost use Rattle.qws_base.specs.Scenes.{Setting};
+ghost use Rattle.qws_base.specs.Scenes.{setting_of};
+ghost use Rattle.qws_base.specs.Windows.{layout_of};
 ghost use Rattle.qws_base.specs.Histories.{World, scene_after};
-ghost use Rattle.window_core.specs.CoreViews.{Belongs, CanRise};
+ghost use Rattle.turn_logs.specs.Carries.{IsBare};
+ghost use Rattle.window_core.specs.CoreViews.{CanRise};
 ghost use Rattle.session_journal.specs.Texts.{comment, line_text};
 ghost use Rattle.session_journal.specs.Grammar.{IsComment};
 ghost use Rattle.script_grammar.specs.Session.{lines_by, call_line};
@@ -16,43 +17,13 @@ ghost use Rattle.session_replay.specs.Steps.{answer_of, answer_words, learned_by
 use crate::answers::Answer;
 use crate::callers::Caller;
 use crate::paints::make_paint;
+use canvas_steps::show_step;
 use pixel_model::Canvas;
 use qws_base::{Command, OutOfMemory, Reply, RowBuf};
 use session_journal::{push_paint_comment, push_step_comment};
 use session_script::{Call, Names, Script};
 use std::alloc::Global;
-use window_core::{Core, Plan};
-
-// The slot that a command moves.
-fn slot_moved(command: &Command) -> Option<u32>
-    ensures { result ≡ moved_slot command.now }
-{
-    match command {
-        Command::Move { slot, origin: _ } => Some(*slot),
-        _ => None,
-    }
-}
-
-// Whether a plan is refused.
-fn is_refusal(plan: &Plan) -> bool
-    ensures { result ≡ is_refused plan.now.reply }
-{
-    matches!(plan.reply(), Reply::Refused { cause: _ })
-}
-
-// Shows a planned step on the canvas, before it is committed.
-fn show_step(core: &Core, canvas: &mut Canvas, command: &Command, plan: &Plan)
-    requires size { canvas.old.setting.size ≡ core.now.size }
-    requires belongs { Belongs core.now.size plan.now core.now.state }
-    requires command { plan.now.command ≡ command.now }
-    ensures setting { canvas.new.setting ≡ canvas.old.setting }
-    ensures scene { let world : World = record { state = core.now.state; scene = canvas.old.scene } in
-        canvas.new.scene ≡ scene_after canvas.old.setting world command.now (step core.now.size core.now.state plan.now.client command.now) }
-{
-    if !is_refusal(plan) {
-        canvas.apply_step(core.windows(), plan.windows(), slot_moved(command));
-    }
-}
+use window_core::Core;
 
 // A command of a client.
 fn make_step(
@@ -64,8 +35,10 @@ fn make_step(
 ) -> Result<Reply, OutOfMemory>
     requires client { client < 16 }
     requires room { CanRise core.old.state }
-    requires size { canvas.old.setting.size ≡ core.old.size }
+    requires screen { canvas.old.setting ≡ setting_of core.old.size canvas.old.setting.depth core.old.backdrop }
+    requires bare { IsBare canvas.old.setting (layout_of core.old.size core.old.state.windows) canvas.old.scene }
     ensures size { core.new.size ≡ core.old.size }
+    ensures backdrop { core.new.backdrop ≡ core.old.backdrop }
     ensures setting { canvas.new.setting ≡ canvas.old.setting }
     ensures state { OnOk result (core.new.state ≡ (step core.old.size core.old.state client command.now).0) }
     ensures scene { let world : World = record { state = core.old.state; scene = canvas.old.scene } in
@@ -73,7 +46,7 @@ fn make_step(
     ensures reply { IfOk result (λ reply. reply ≡ (step core.old.size core.old.state client command.now).1) }
 {
     let plan = core.plan(alloc, client, command)?;
-    show_step(core, canvas, command, &plan);
+    show_step(alloc, core, canvas, command, &plan)?;
     let (_, reply) = core.commit(plan);
     Ok(reply)
 }
@@ -89,8 +62,10 @@ pub fn make_call(
 ) -> Result<Answer, OutOfMemory>
     requires client { client < 16 }
     requires room { CanRise core.old.state }
-    requires size { canvas.old.setting.size ≡ core.old.size }
+    requires screen { canvas.old.setting ≡ setting_of core.old.size canvas.old.setting.depth core.old.backdrop }
+    requires bare { IsBare canvas.old.setting (layout_of core.old.size core.old.state.windows) canvas.old.scene }
     ensures size { core.new.size ≡ core.old.size }
+    ensures backdrop { core.new.backdrop ≡ core.old.backdrop }
     ensures setting { canvas.new.setting ≡ canvas.old.setting }
     ensures world { let world : World = record { state = core.old.state; scene = canvas.old.scene } in
         OnOk result ((k : ℕ) → IsNextWorld canvas.old.setting world (entry_in canvas.old.setting world client k call.now) core.new.state canvas.new.scene) }

@@ -1,1 +1,3 @@
 pub mod Lost
+pub mod Distances
+pub mod Moved

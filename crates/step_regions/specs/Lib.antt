@@ -1,1 +1,2 @@
 pub mod Bared
+pub mod Carried

@@ -15,9 +15,9 @@ use Rattle.turn_logs.proofs.Joining.{on-append}
 use Rattle.turn_logs.proofs.Lifting.{lies}
 use Rattle.sw_cursor.proofs.Lifted.{few_of_shape}
 use Rattle.scene_turns.specs.declared.works.Work.TheVariants.{Fill, Carry}
-use Rattle.scene_turns.specs.Works.{source}
+use Rattle.step_regions.specs.Carried.{source}
 use Rattle.scene_turns.specs.Sweeps.{Sweeps}
-use Rattle.desk_turns.specs.declared.moves.CarriedPixels.{CarriedPixels}
+use Rattle.step_regions.specs.declared.moves.CarriedPixels.{CarriedPixels}
 use Rattle.step_turns.specs.Changes.{IsClear}
 
 -- a saved word of a shown cell is below those of pixels

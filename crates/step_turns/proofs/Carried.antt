@@ -26,12 +26,11 @@ use Rattle.turn_logs.proofs.Phases.{phase_law, away_law}
 use Rattle.turn_logs.proofs.Lifting.{cells_law}
 use Rattle.scene_turns.specs.declared.works.Work.{Work}
 use Rattle.scene_turns.specs.declared.works.Work.TheVariants.{Fill, Carry}
-use Rattle.scene_turns.specs.Works.{source}
+use Rattle.step_regions.specs.Carried.{CarriesFor, source}
 use Rattle.scene_turns.specs.Sweeps.{Sweeps, AddsSweep}
 use Rattle.scene_turns.specs.Changes.{IsAsked}
 use Rattle.scene_turns.proofs.Changing.{change_law}
 use Rattle.step_regions.specs.Bared.{is_lost}
-use Rattle.desk_turns.specs.Asked.{CarriesFor}
 use Rattle.desk_turns.specs.Redraws.{Redraws}
 use Rattle.desk_turns.proofs.Asking.{asked_law}
 use Rattle.desk_turns.proofs.Redrawing.{redrawn_law}

@@ -27,10 +27,10 @@ use Rattle.fb_words.specs.declared.known.Server.{Server}
 use Rattle.fb_words.specs.Steps.{IsNextTable, CarriesAtGive}
 use Rattle.window_core.specs.CoreViews.{CoreView, PlanView, Belongs, IsServed}
 use Rattle.qws_base.proofs.ArrangedLemmas.{arranged_law}
-use Rattle.desk_turns.specs.Asked.{CarriesFor}
+use Rattle.step_regions.specs.Carried.{CarriesFor, slot_carried}
 use Rattle.step_turns.specs.declared.changed.Changes.{Changes}
 use Rattle.step_turns.specs.Publishes.{Publishes}
-use Rattle.step_turns.specs.Changes.{AreChangesOf, state_planned, slot_carried}
+use Rattle.step_turns.specs.Changes.{AreChangesOf, state_planned}
 use Rattle.step_turns.specs.Written.{Draws, WritesTable}
 use Rattle.step_turns.proofs.After.{next, spelled, of_state, fits, rows_stay, follows}
 use Rattle.step_turns.proofs.Carried.{step_asks, drawn_carries}

@@ -20,14 +20,12 @@ use Rattle.qws_base.proofs.PixelLemmas.{pixel_at as at_pixel}
 use Rattle.turn_logs.specs.Carries.{ShownCell, shown_cell}
 use Rattle.turn_logs.proofs.Options.{some_is, none_some}
 use Rattle.turn_logs.proofs.Lifting.{Lies, lies}
-use Rattle.scene_turns.specs.Works.{source}
-use Rattle.desk_turns.specs.Asked.{CarriesFor}
-use Rattle.desk_turns.specs.Carried.{IsCarried}
-use Rattle.desk_turns.specs.declared.moves.CarriedPixels.{CarriedPixels}
+use Rattle.step_regions.specs.Carried.{CarriesFor, IsCarried, slot_carried, source}
+use Rattle.step_regions.specs.declared.moves.CarriedPixels.{CarriedPixels}
 use Rattle.qws_base.specs.States.{is_refused, moved_slot}
 use Rattle.qws_base.specs.declared.commands.Command.TheVariants.{Move}
 use Rattle.window_core.specs.CoreViews.{PlanView}
-use Rattle.step_turns.specs.Changes.{IsClear, slot_carried}
+use Rattle.step_turns.specs.Changes.{IsClear}
 use Rattle.step_turns.specs.Covers.{shares, meets, any_meets, place_of}
 
 -- ---- rectangles

@@ -18,7 +18,7 @@ use Rattle.region_table.specs.declared.tables.Row.{Row}
 use Rattle.region_table.specs.declared.tables.Table.{Table}
 use Rattle.turn_logs.specs.Carries.{ShownCell, shown_cell, scene_word, Keeps, SceneCarried, CellCarried, source_of, is_bared, CarriesStep}
 use Rattle.turn_logs.proofs.Options.{some_is, none_some}
-use Rattle.desk_turns.proofs.Distances.{pixel_on, two}
+use Rattle.step_regions.proofs.Distances.{pixel_on, two}
 
 some_columns : (w h p : ℕ) → p < w * h → 0 < w
 some_columns zero h p below = absurd (omega arith)

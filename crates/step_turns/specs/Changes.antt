@@ -1,9 +1,9 @@
 -- What a planned step changes on the framebuffer, and what its turn changes of the server.
-use Rattle.std.specs.Prelude.{◌≡◌, ℕ, ◌<◌, Bool, true, false, All, List, Option, None, Some, if◌then◌else◌}
+use Rattle.std.specs.Prelude.{◌≡◌, ℕ, ◌<◌, Bool, true, false, All, List, Some}
 use Rattle.qws_base.specs.Sides.{Sides}
 use Rattle.qws_base.specs.Points.{any_holds, point_of, pixel_count}
 use Rattle.qws_base.specs.RectPixels.{IsWithin}
-use Rattle.qws_base.specs.States.{State, is_refused, moved_slot}
+use Rattle.qws_base.specs.States.{State}
 use Rattle.qws_base.specs.Steps.{step}
 use Rattle.qws_base.specs.declared.points.Point.{Point}
 use Rattle.qws_base.specs.declared.points.Rect.{Rect}
@@ -12,11 +12,10 @@ use Rattle.qws_base.specs.declared.commands.Command.{Command}
 use Rattle.qws_base.specs.declared.commands.Command.TheVariants.{Create, Destroy, Region, Move, Raise, Lower, CursorShape, CursorMove, CursorShow, Join, Leave, Send, Take, IsRegistered}
 use Rattle.window_core.specs.CoreViews.{CoreView, PlanView}
 use Rattle.step_regions.specs.Bared.{is_lost}
+use Rattle.step_regions.specs.Carried.{CarriesFor, slot_carried, source}
 use Rattle.turn_logs.specs.Carries.{ShownCell, shown_cell}
 use Rattle.fb_words.specs.Views.{HeadView}
-use Rattle.scene_turns.specs.Works.{source}
-use Rattle.desk_turns.specs.declared.moves.CarriedPixels.{CarriedPixels}
-use Rattle.desk_turns.specs.Asked.{CarriesFor}
+use Rattle.step_regions.specs.declared.moves.CarriedPixels.{CarriedPixels}
 use Rattle.step_turns.specs.declared.changed.Changes.{Changes}
 
 -- a command on the cursor: no other changes it
@@ -35,10 +34,6 @@ is_on_cursor (Leave channel) = false
 is_on_cursor (Send channel message payload) = false
 is_on_cursor Take = false
 is_on_cursor (IsRegistered channel) = false
-
--- the slot whose pixels a plan's step carries: that of an accepted move
-abbrev pub slot_carried : PlanView → Option ℕ
-slot_carried plan = if is_refused plan.reply then None else moved_slot plan.command
 
 -- no cell of the shown cursor lies on a pixel that is carried or filled, nor on one from which a pixel is carried
 abbrev pub IsClear : Sides → Cursor → CarriedPixels → List Rect → Type 0

@@ -11,7 +11,7 @@ use Rattle.window_core.specs.CoreViews.{CoreView, PlanView}
 use Rattle.table_turns.specs.Writes.{Sets}
 use Rattle.scene_turns.specs.declared.works.Work.TheVariants.{Fill, Carry}
 use Rattle.scene_turns.specs.Sweeps.{Sweeps, AddsSweep}
-use Rattle.desk_turns.specs.declared.moves.CarriedPixels.{CarriedPixels}
+use Rattle.step_regions.specs.declared.moves.CarriedPixels.{CarriedPixels}
 use Rattle.desk_turns.specs.Cursors.{Respells}
 use Rattle.desk_turns.specs.Redraws.{Redraws}
 use Rattle.desk_turns.specs.Rows.{WritesRows}

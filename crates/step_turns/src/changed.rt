@@ -1,16 +1,13 @@
 //! What a planned step changes on the framebuffer.
-ghost use Rattle.std.specs.Prelude.{◌≡◌, ◌<◌, ◌⊎◌, ◌↔◌, [], true, false, IsTrue, IfOk, Some};
-ghost use Rattle.qws_base.specs.States.{is_refused};
-ghost use Rattle.window_core.specs.CoreViews.{Belongs, IsServed};
-ghost use Rattle.desk_turns.specs.Asked.{CarriesFor};
-ghost use Rattle.step_turns.specs.Changes.{AreChangesOf, is_on_cursor, slot_carried};
+ghost use Rattle.std.specs.Prelude.{◌≡◌, ◌⊎◌, ◌↔◌, [], true, false, IsTrue, IfOk};
+ghost use Rattle.window_core.specs.CoreViews.{Belongs};
+ghost use Rattle.step_turns.specs.Changes.{AreChangesOf, is_on_cursor};
 
-use crate::covers::{distance, is_covered};
+use crate::covers::is_covered;
 use band_regions::Region;
-use desk_turns::{CarriedPixels, carried};
-use qws_base::{Command, Cursor, OutOfMemory, Reply};
+use qws_base::{Command, Cursor, OutOfMemory};
 use std::alloc::Global;
-use step_regions::bared;
+use step_regions::{CarriedPixels, bared, carried_by};
 use window_core::{Core, Plan};
 
 /// What a planned step changes on the framebuffer: the pixels that a move carries, those that lose their last owner, whether
@@ -103,61 +100,4 @@ fn is_same_cursor(before: &Cursor, after: &Cursor) -> bool
     ensures { IsTrue result ↔ (after.now ≡ before.now) }
 {
     after == before
-}
-
-// No pixels.
-fn no_pixels(alloc: Global) -> Result<CarriedPixels, OutOfMemory>
-    ensures { IfOk result (λ c. c.region ≡ []) }
-{
-    let region = Region::of_rects(alloc, &[])?;
-    let _none = region.is_empty();
-    Ok(CarriedPixels {
-        region,
-        falling: false,
-        by: 0,
-    })
-}
-
-// Whether a reply is a refusal.
-fn is_refused(reply: &Reply) -> bool
-    ensures { result ≡ is_refused reply.now }
-{
-    matches!(reply, Reply::Refused { cause: _ })
-}
-
-// The pixels that the window of a slot carries to where it is after the step.
-fn carried_to(
-    alloc: Global,
-    core: &Core,
-    plan: &Plan,
-    slot: u32,
-) -> Result<CarriedPixels, OutOfMemory>
-    requires served { IsServed core.now.size core.now.state }
-    requires belongs { Belongs core.now.size plan.now core.now.state }
-    requires slot { slot < 32 }
-    ensures { IfOk result (λ c. CarriesFor core.now.size core.now.state.windows plan.now.windows (Some slot) c.region c.falling c.by) }
-{
-    let by = distance(core, plan, slot);
-    carried(alloc, core, plan, slot, by.x, by.y)
-}
-
-// The pixels that a plan's step carries.
-fn carried_by(
-    alloc: Global,
-    core: &Core,
-    plan: &Plan,
-    command: &Command,
-) -> Result<CarriedPixels, OutOfMemory>
-    requires served { IsServed core.now.size core.now.state }
-    requires belongs { Belongs core.now.size plan.now core.now.state }
-    requires command { plan.now.command ≡ command.now }
-    ensures { IfOk result (λ c. CarriesFor core.now.size core.now.state.windows plan.now.windows (slot_carried plan.now) c.region c.falling c.by) }
-{
-    if is_refused(plan.reply()) {
-        return no_pixels(alloc);
-    }
-    if let Command::Move { slot, origin: _ } = command {
-        return carried_to(alloc, core, plan, *slot);
-    }
-    no_pixels(alloc)
 }

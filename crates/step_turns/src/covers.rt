@@ -4,14 +4,13 @@ ghost use Rattle.qws_base.specs.RectPixels.{IsWithin};
 ghost use Rattle.qws_base.specs.Points.{minus, shifted};
 ghost use Rattle.qws_base.specs.Windows.{origin_of};
 ghost use Rattle.window_core.specs.CoreViews.{Belongs, IsServed};
-ghost use Rattle.desk_turns.specs.Asked.{CarriesFor};
-ghost use Rattle.desk_turns.specs.Carried.{IsNear};
-ghost use Rattle.step_turns.specs.Changes.{slot_carried, IsClear};
+ghost use Rattle.step_regions.specs.Carried.{CarriesFor, IsNear, slot_carried};
+ghost use Rattle.step_turns.specs.Changes.{IsClear};
 ghost use Rattle.step_turns.specs.Covers.{shares, meets, any_meets, place_of, IsNearby};
 
 use band_regions::Region;
-use desk_turns::{CarriedPixels, origin_of};
 use qws_base::{Command, Point, Rect};
+use step_regions::{CarriedPixels, distance};
 use window_core::{Core, Plan};
 
 // Whether so many places from a start on end behind a place.
@@ -56,21 +55,6 @@ fn place_of(core: &Core) -> Rect
         y: cursor.y as i32,
         w: cursor.w,
         h: cursor.h,
-    }
-}
-
-/// How far the window of a slot moves by a plan's step.
-pub(crate) fn distance(core: &Core, plan: &Plan, slot: u32) -> Point
-    requires served { IsServed core.now.size core.now.state }
-    requires belongs { Belongs core.now.size plan.now core.now.state }
-    ensures distance { result ≡ minus (origin_of plan.now.windows slot) (origin_of core.now.state.windows slot) }
-    ensures near { IsNear result.x × IsNear result.y }
-{
-    let before = origin_of(core.windows(), slot);
-    let after = origin_of(plan.windows(), slot);
-    Point {
-        x: after.x - before.x,
-        y: after.y - before.y,
     }
 }
 

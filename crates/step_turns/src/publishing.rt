@@ -28,10 +28,11 @@ ghost use Rattle.step_turns.specs.Written.{DrawsOn, GoesOn, LeavesCells, SweepsB
 
 use crate::changed::Changes;
 use band_regions::Region;
-use desk_turns::{CarriedPixels, redraw, write_cursor, write_rows};
+use desk_turns::{redraw, write_cursor, write_rows};
 use display_lock::ServerTurn;
 use qws_base::Rgb;
 use scene_turns::{carry, fill};
+use step_regions::CarriedPixels;
 use table_turns::write_stamp;
 use window_core::{Core, Plan};
 

@@ -6,7 +6,8 @@ use Rattle.qws_base.specs.declared.points.Rect.{Rect}
 use Rattle.qws_base.specs.declared.windows.WindowView.{WindowView}
 use Rattle.window_core.specs.CoreViews.{PlanView}
 use Rattle.table_turns.specs.Writes.{made_row}
-use Rattle.desk_turns.proofs.Planned.{found_placed, all_packable, few_rects}
+use Rattle.step_regions.proofs.Moved.{found_placed}
+use Rattle.desk_turns.proofs.Planned.{all_packable, few_rects}
 use Rattle.desk_turns.proofs.rows.write_planned.Goals as goal
 
 pub write_row-requires-clause-row : goal.write_row-requires-clause-row

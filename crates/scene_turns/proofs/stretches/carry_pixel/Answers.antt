@@ -8,7 +8,7 @@ use Rattle.fb_words.specs.Views.{HeadView, ScreenView}
 use Rattle.fb_words.specs.Steps.{after_read, after_write}
 use Rattle.sw_cursor.proofs.Lifted.{read_log, write_log, pixel_line}
 use Rattle.scene_turns.specs.declared.works.Work.TheVariants.{Carry}
-use Rattle.scene_turns.specs.Works.{source, HasSource}
+use Rattle.step_regions.specs.Carried.{source, HasSource}
 use Rattle.scene_turns.proofs.Working.{one_done}
 use Rattle.scene_turns.proofs.stretches.carry_pixel.Goals as goal
 use Rattle.scene_turns.proofs.stretches.carry_pixel.Goals.{then-falling, else-falling}

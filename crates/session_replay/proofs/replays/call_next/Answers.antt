@@ -34,7 +34,7 @@ returns c = λ h e is before.
     let learns : naming c.learn.new.caller.names.slots ≡ learned_by_answer (naming learner.names.slots) next.line.call c.in_ok-answer.answer =
     some_same (λ (l : CallLine). learned_by_answer (naming learner.names.slots) l.call c.in_ok-answer.answer) (call_line session learner.names.client learner.made) next.line (naming c.learn.new.caller.names.slots) (caller_line session h client learner next.line own next.is_line) c.in_ok-learn.ensures.slots in (
       record {
-        world = world_next session h e c.args.replay.now.core c.make_call.new.core c.args.replay.now.canvas c.make_call.new.canvas before.world c.make_call.ensures.size c.make_call.ensures.setting
+        world = world_next session h e c.args.replay.now.core c.make_call.new.core c.args.replay.now.canvas c.make_call.new.canvas before.world c.make_call.ensures.size c.make_call.ensures.backdrop c.make_call.ensures.setting
             (subst (λ (f : Entry). IsNextWorld (session_setting session) (world_after (session_setting session) h) f c.make_call.new.core.state c.make_call.new.canvas.scene) (sym next.is_entry)
             (on_line (λ (g : Setting) (w : World) (f : Entry). IsNextWorld g w f c.make_call.new.core.state c.make_call.new.canvas.scene) session h next.line client c.in_ok-call.call c.args.replay.now.core c.args.replay.now.canvas call before.world c.in_ok-answer.ensures.world));
         callers = callers_next session h e next.line items client learner c.learn.new.caller c.in_ok-answer.answer before.callers known c.index_mut.ensures.value (next_client session h client e is) next.is_line answer

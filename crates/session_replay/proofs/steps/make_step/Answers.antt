@@ -7,4 +7,4 @@ pub returns-clause-scene : goal.returns-clause-scene
 returns-clause-scene c =
     let world : World = record { state = c.args.core.now.state; scene = c.args.canvas.now.scene } in
     let after : ℕ → _ = λ n. scene_after c.args.canvas.now.setting world c.args.command.now (step c.args.core.now.size c.args.core.now.state n c.args.command.now) in
-    c.show_step.ensures.scene ∙ ap after c.in_ok-plan.ensures.client
+    c.in_ok-show_step.ensures.scene ∙ ap after c.in_ok-plan.ensures.client

@@ -1,7 +1,7 @@
 use Rattle.std.proofs.Common.{ap, sym, ◌∙◌}
 use Rattle.qws_base.specs.Points.{minus, shifted}
 use Rattle.qws_base.specs.Windows.{origin_of}
-use Rattle.step_turns.specs.Changes.{slot_carried}
+use Rattle.step_regions.specs.Carried.{slot_carried}
 use Rattle.step_turns.proofs.Meeting.{clear_so, covered_so, judged}
 use Rattle.step_turns.proofs.covers.is_covered.Goals as goal
 

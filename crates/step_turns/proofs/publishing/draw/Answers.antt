@@ -3,7 +3,7 @@ use Rattle.std.specs.Prelude.{All}
 use Rattle.qws_base.specs.Sides.{Sides}
 use Rattle.qws_base.specs.RectPixels.{IsWithin}
 use Rattle.qws_base.specs.Scenes.{Setting}
-use Rattle.step_turns.specs.Changes.{slot_carried}
+use Rattle.step_regions.specs.Carried.{slot_carried}
 use Rattle.step_turns.proofs.Meeting.{carried_within}
 use Rattle.step_turns.proofs.Carried.{draws_on, sweeps_on, sweeps_leave, stays_leaves}
 use Rattle.step_turns.proofs.publishing.draw.Goals as goal
