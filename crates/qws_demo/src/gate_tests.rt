@@ -32,9 +32,9 @@ fn a_trial_makes_each_call_once(rt: HostRuntime) -> Result<(), Fail> {
     let sink = MemSink::new(alloc, 1000, 1000, Vec::new(alloc))?;
     let words = "trial --seed 7 --clients 4 --calls 200";
     let (status, sink, _kept) = run_gated(&rt, alloc, words, source, sink, &gate)?;
-    assert_eq!(rt; status, 0);
-    assert_eq!(rt; sink.bytes(), b"clients 4 calls 800 holds\n".as_slice());
-    assert_eq!(rt; gate.calls.load(Ordering::SeqCst), 800);
+    assert!(rt; status == 0);
+    assert!(rt; sink.bytes() == b"clients 4 calls 800 holds\n".as_slice());
+    assert!(rt; gate.calls.load(Ordering::SeqCst) == 800);
     Ok(())
 }
 
@@ -111,14 +111,14 @@ fn two_clients_paint_at_the_same_time(rt: HostRuntime) -> Result<(), Fail> {
     let source = MemSource::new(TWO_PAINTERS.to_vec(alloc)?, 1000, Vec::new(alloc));
     let sink = MemSink::new(alloc, 1000, 1000, Vec::new(alloc))?;
     let (status, sink, kept) = run_gated(&rt, alloc, "run", source, sink, &gate)?;
-    assert_eq!(rt; status, 0);
-    assert_eq!(rt; gate.ran_out.load(Ordering::SeqCst), 0);
-    assert_eq!(rt; gate.in_turn.load(Ordering::SeqCst), 2);
-    assert_eq!(rt; gate.calls.load(Ordering::SeqCst), 6);
+    assert!(rt; status == 0);
+    assert!(rt; gate.ran_out.load(Ordering::SeqCst) == 0);
+    assert!(rt; gate.in_turn.load(Ordering::SeqCst) == 2);
+    assert!(rt; gate.calls.load(Ordering::SeqCst) == 6);
     let Some(closed) = kept else {
         return Err(Fail::new("no session is kept"));
     };
-    assert_eq!(rt; closed.shown(), [0xff_0000, 0x00_ff00].as_slice());
+    assert!(rt; closed.shown() == [0xff_0000, 0x00_ff00].as_slice());
     assert!(rt;
         sink.bytes()
             .ends_with(b"2 1\n255\n\xff\x00\x00\x00\xff\x00")

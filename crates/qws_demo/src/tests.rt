@@ -97,8 +97,8 @@ fn scripts_become_files(rt: HostRuntime) -> Result<(), Fail> {
     for (script, status, file) in cases {
         let source = MemSource::new(script.to_vec(alloc)?, 7, Vec::new(alloc));
         let (got, sink) = run_with(&rt, alloc, "run", source, 1000, Vec::new(alloc))?;
-        assert_eq!(rt; got, status);
-        assert_eq!(rt; sink.bytes(), file);
+        assert!(rt; got == status);
+        assert!(rt; sink.bytes() == file);
     }
     Ok(())
 }
@@ -127,8 +127,8 @@ fn files_are_held_against_their_scripts(rt: HostRuntime) -> Result<(), Fail> {
     for (script, file, status, text) in cases {
         let source = MemSource::new(joined(alloc, script, file)?, 100, Vec::new(alloc));
         let (got, sink) = run_with(&rt, alloc, "check", source, 1000, Vec::new(alloc))?;
-        assert_eq!(rt; got, status);
-        assert_eq!(rt; sink.bytes(), text);
+        assert!(rt; got == status);
+        assert!(rt; sink.bytes() == text);
     }
     Ok(())
 }
@@ -153,8 +153,8 @@ fn words_are_told_apart(rt: HostRuntime) -> Result<(), Fail> {
     for (words, status, text) in cases {
         let source = MemSource::new(EMPTY.to_vec(alloc)?, 7, Vec::new(alloc));
         let (got, sink) = run_with(&rt, alloc, words, source, 1000, Vec::new(alloc))?;
-        assert_eq!(rt; got, status);
-        assert_eq!(rt; sink.bytes(), text);
+        assert!(rt; got == status, "{words}");
+        assert!(rt; sink.bytes() == text, "{words}");
     }
     Ok(())
 }
@@ -172,8 +172,8 @@ fn no_script_runs_without_waiting(rt: HostRuntime) -> Result<(), Fail> {
         let mut source = MemSource::new(EMPTY.to_vec(alloc)?, 7, Vec::new(alloc));
         let mut sink = MemSink::new(alloc, 1000, 1000, Vec::new(alloc))?;
         let got = plain_top(alloc, &words, &mut source, &mut sink);
-        assert_eq!(rt; got, status);
-        assert_eq!(rt; sink.bytes(), text);
+        assert!(rt; got == status);
+        assert!(rt; sink.bytes() == text);
     }
     Ok(())
 }
@@ -183,8 +183,8 @@ fn the_sink_fails_at_its_third_call(rt: HostRuntime) -> Result<(), Fail> {
     let alloc = rt.alloc();
     let source = MemSource::new(EMPTY.to_vec(alloc)?, 7, Vec::new(alloc));
     let (got, sink) = run_with(&rt, alloc, "run", source, 5, vec![in alloc; 3]?)?;
-    assert_eq!(rt; got, 4);
-    assert_eq!(rt; sink.bytes(), b"P6\n2 1\n255".as_slice());
+    assert!(rt; got == 4);
+    assert!(rt; sink.bytes() == b"P6\n2 1\n255".as_slice());
     Ok(())
 }
 
@@ -193,8 +193,8 @@ fn the_first_read_fails(rt: HostRuntime) -> Result<(), Fail> {
     let alloc = rt.alloc();
     let source = MemSource::new(EMPTY.to_vec(alloc)?, 7, vec![in alloc; 1]?);
     let (got, sink) = run_with(&rt, alloc, "run", source, 1000, Vec::new(alloc))?;
-    assert_eq!(rt; got, 3);
-    assert_eq!(rt; sink.bytes(), b"".as_slice());
+    assert!(rt; got == 3);
+    assert!(rt; sink.bytes() == b"".as_slice());
     Ok(())
 }
 
@@ -212,7 +212,7 @@ fn a_byte_more_than_the_limit(rt: HostRuntime) -> Result<(), Fail> {
     let alloc = rt.alloc();
     let source = MemSource::new(blanks(alloc, 4_194_305)?, 65_536, Vec::new(alloc));
     let (got, sink) = run_with(&rt, alloc, "run", source, 1000, Vec::new(alloc))?;
-    assert_eq!(rt; got, 6);
-    assert_eq!(rt; sink.bytes(), b"too long\n".as_slice());
+    assert!(rt; got == 6);
+    assert!(rt; sink.bytes() == b"too long\n".as_slice());
     Ok(())
 }
