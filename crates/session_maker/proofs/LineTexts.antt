@@ -1,5 +1,5 @@
 -- The text of a line, word by word.
-use Rattle.std.proofs.Common.{◌≡◌, ℕ, List, [], ◌∷◌, Result, Ok, Err, OnOk, ◌++◌, refl, ap, sym, ◌∙◌, append_assoc}
+use Rattle.std.proofs.Common.{◌≡◌, ℕ, List, [], ◌∷◌, Result, Ok, Err, IfOk, ◌++◌, refl, ap, sym, ◌∙◌, append_assoc}
 use Rattle.std.specs.List.{join_with_byte}
 use Rattle.script_grammar.specs.Printing.{ended_line}
 
@@ -14,7 +14,7 @@ ended_is [] = refl
 ended_is (w ∷ []) = refl
 ended_is (w ∷ v ∷ words) = ap (λ (t : List ℕ). w ++ (32 ∷ t)) (ended_is (v ∷ words)) ∙ sym (append_assoc w (32 ∷ join_with_byte 32 (v ∷ words)) (10 ∷ []))
 
--- what is added is another spelling of the same text
-pub with_text : {A E : Type 0} (r : Result A E) (new old text same : List ℕ) → OnOk r (new ≡ old ++ text) → text ≡ same → OnOk r (new ≡ old ++ same)
-with_text (Ok x) new old text same added is = added ∙ ap (λ (t : List ℕ). old ++ t) is
-with_text (Err e) new old text same added is = tt
+-- the text has another spelling
+pub same_text : {A E : Type 0} (r : Result A E) (bytes : A → List ℕ) (text same : List ℕ) → IfOk r (λ t. bytes t ≡ text) → text ≡ same → IfOk r (λ t. bytes t ≡ same)
+same_text (Ok t) bytes text same is e = is ∙ e
+same_text (Err x) bytes text same is e = tt
