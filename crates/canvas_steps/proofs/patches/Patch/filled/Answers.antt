@@ -14,6 +14,6 @@ returns c =
     let f : ℕ → ℕ = scene_colour c.args.canvas.now.setting.depth in
     let many : c.len.result ≡ length c.in_ok-pixels.pixels.items = omega (arith, c.in_ok-pixels.pixels.ok.0, c.len.ensures) in
     let all : c.in_ok-colours.colours.items ≡ replicate c.len.result c.args.colour = c.in_ok-colours.ensures.items_if_clones_equal (λ y e. e) in record {
-  pixels = c.in_ok-pixels.ensures ∙ ap (λ (s : Sides). rects_pixels s.w c.args.region.now) c.size.ensures;
-  colours = ap (map f) (all ∙ ap (λ (n : ℕ). replicate n c.args.colour) many) ∙ filled_colours f c.args.colour c.in_ok-pixels.pixels.items;
-}
+      pixels = c.in_ok-pixels.ensures ∙ ap (λ (s : Sides). rects_pixels s.w c.args.region.now) c.size.ensures;
+      colours = ap (map f) (all ∙ ap (λ (n : ℕ). replicate n c.args.colour) many) ∙ filled_colours f c.args.colour c.in_ok-pixels.pixels.items;
+    }
