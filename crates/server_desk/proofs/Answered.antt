@@ -17,7 +17,7 @@ use Rattle.server_desk.proofs.Called.{journal_more}
 abbrev pub desk_of : HeadView → DeskView
 desk_of h = record { screen = h.screen; server = h.server }
 
-stepped_desk : (before after : HeadView) (p : Client) (command : Command) (answer : Answer) → HasStepped before after p command answer → HasAnswered (desk_of before) (desk_of after) p.number command answer
+pub stepped_desk : (before after : HeadView) (p : Client) (command : Command) (answer : Answer) → HasStepped before after p command answer → HasAnswered (desk_of before) (desk_of after) p.number command answer
 stepped_desk before after p command answer is =
     let closed : after.server.closed ≡ before.server.closed ++ turn_of p.number command answer.reply is.served.log ∷ [] = ap (λ (h : HeadView). h.server.closed) is.served.head in
     let number = is.number in

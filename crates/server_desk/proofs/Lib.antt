@@ -9,3 +9,4 @@ pub mod Wholes
 pub mod OwnWindows
 pub mod Grabbing
 pub mod Grabbed
+pub mod Waiting

@@ -21,8 +21,9 @@ use Rattle.server_desk.specs.declared.answers.CallStop.TheVariants.{Busy, Journa
 use Rattle.server_desk.specs.Answers.{steps_made, entry_of_answer}
 use Rattle.server_desk.specs.Keeping.{IsCurrent, IsListed}
 use Rattle.server_desk.specs.Serving.{HasServed, after_turn}
-use Rattle.server_desk.specs.Stepping.{HasStepped, StopsWith}
-use Rattle.server_desk.specs.Drafts.{HasHalted}
+use Rattle.server_desk.specs.Stepping.{HasStepped, HaltsWith}
+use Rattle.server_desk.specs.Drafts.{HasNoDraft}
+use Rattle.server_desk.proofs.Counting.{sum_set}
 use Rattle.server_desk.proofs.Called.{sitting_sits, number_within, own_count, own_limit, listed_step}
 
 pub sits_there : (h a : HeadView) → h ≡ a → a.sitting ≡ only a.sitting ∷ [] → AllSit a.server a.sitting → Sits h.server (only a.sitting)
@@ -52,13 +53,31 @@ sitter h a journal connected made left room capacity client is one sit listed nu
       limit = ap (λ c. slice_index made c + slice_index left c) number ∙ own_limit h.server p made left listed.counts sits;
     }
 
-pub stops : (h a after : HeadView) (s : Server) (made left : List ℕ) (client : ℕ) (stop : CallStop) → h ≡ a → IsSitter s made left client (only a.sitting) → HasHalted (slice_index made client) (slice_index left client) stop
-    → after ≡ withdrawn h → StopsWith a after (only a.sitting) stop
-stops h a after s made left client OutOfMemory is p halted left_so = left_so ∙ ap withdrawn is
-stops h a after s made left client (JournalFull held) is p halted left_so =
-    let count = p.count in let limit = p.limit in let none = halted.0 in let some = halted.1 in
+-- a command that has no draft stops
+pub halts : (h a after : HeadView) (s : Server) (made left : List ℕ) (client : ℕ) (stop : CallStop) → h ≡ a → IsSitter s made left client (only a.sitting) → HasNoDraft (slice_index made client) (slice_index left client) stop
+    → after ≡ withdrawn h → HaltsWith a after (only a.sitting) stop
+halts h a after s made left client OutOfMemory is p none left_so = left_so ∙ ap withdrawn is
+halts h a after s made left client (JournalFull held) is p none left_so =
+    let count = p.count in let limit = p.limit in let no_left = none.0 in let some = none.1 in
     (omega arith, omega arith, left_so ∙ ap withdrawn is)
-stops h a after s made left client (Busy found) is p halted left_so = absurd halted
+halts h a after s made left client (Busy found) is p none left_so = absurd none
+
+-- a step is left where fewer were made than may be, and else isn't
+pub some_left : (s : Server) (made left : List ℕ) (client : ℕ) (p : Client) → IsSitter s made left client p → steps_made p < p.step_limit → 1 ≤ slice_index left client
+some_left s made left client p is few = let count = is.count in let limit = is.limit in omega arith
+
+pub few_made : (s : Server) (made left : List ℕ) (client : ℕ) (p : Client) → IsSitter s made left client p → 1 ≤ slice_index left client → steps_made p < p.step_limit
+few_made s made left client p is some = let count = is.count in let limit = is.limit in omega arith
+
+-- the journal has room where a step is left
+pub some_room : (s : Server) (journal : List JournalEntry) (connected : ℕ) (made left : List ℕ) (room capacity client : ℕ) → IsListed s journal connected made left room capacity → client < 16 → 1 ≤ slice_index left client
+    → (1 ≤ room) × (length journal < capacity)
+some_room s journal connected made left room capacity client listed low some =
+    let wide = listed.counts.sixteen_left in
+    let sums = sum_set left client 0 (omega arith) in
+    let room_is = listed.room_is in
+    let fits = listed.fits in
+    (omega arith, omega arith)
 
 pub listed_served : (h after : HeadView) (e : JournalEntry) (served : HasServed h after e) (journal journal' : List JournalEntry) (connected : ℕ) (made left : List ℕ) (room capacity capacity' client : ℕ)
     → IsListed h.server journal connected made left room capacity → e.client ≡ client → client < length h.server.limits → 1 ≤ slice_index left client → e.number ≡ length h.server.closed + 1

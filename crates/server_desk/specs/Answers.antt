@@ -1,5 +1,5 @@
 -- What the desk's calls answer, and what they leave.
-use Rattle.std.specs.Prelude.{◌≡◌, ◌≢◌, ℕ, ◌+◌, ◌<◌, List, [], ◌∷◌, ◌++◌, length}
+use Rattle.std.specs.Prelude.{◌≡◌, ◌≢◌, ℕ, ◌+◌, ◌<◌, List, [], ◌∷◌, ◌++◌, length, All}
 use Rattle.qws_base.specs.Steps.{step}
 use Rattle.qws_base.specs.declared.commands.Command.{Command}
 use Rattle.qws_base.specs.declared.replies.Reply.{Reply}
@@ -8,6 +8,7 @@ use Rattle.region_table.specs.Numbers.{closed_gate}
 use Rattle.turn_logs.specs.declared.items.Item.{Item}
 use Rattle.fb_words.specs.declared.known.Client.{Client}
 use Rattle.fb_words.specs.declared.known.Closed.{Closed}
+use Rattle.fb_words.specs.declared.known.ServerMode.{ServerMode}
 use Rattle.fb_words.specs.declared.known.ServerMode.TheVariants.{Resting}
 use Rattle.fb_words.specs.Views.{PassView, steps_in}
 use Rattle.fb_words.specs.Steps.{stepped}
@@ -66,6 +67,21 @@ abbrev pub HasStopped : DeskView → DeskView → Client → CallStop → Type 0
 HasStopped before after p CallOutOfMemory = after ≡ withdrawn_desk before
 HasStopped before after p (JournalFull held) = (steps_made p ≡ p.step_limit) × (held ≡ p.step_limit) × (after ≡ withdrawn_desk before)
 HasStopped before after p (Busy found) = (steps_made p < p.step_limit) × (found ≢ closed_gate) × (after ≡ shut_out_desk before found)
+
+-- ---- waiting
+
+-- The same after the server was shut out by the words found, as often as painters were in; none of them is 2^32.
+pub record HasAnsweredLater (before after : DeskView) (client : ℕ) (command : Command) (answer : Answer) : Type 0 where
+  pub mode : ServerMode
+  pub found : List ℕ
+  pub others : All (λ n. n ≢ closed_gate) found
+  pub answered : HasAnswered (record before { server = record before.server { mode = mode; turned = before.server.turned ++ found } }) after client command answer
+
+-- A call that waits stops for want of memory, or with a full journal alone.
+abbrev pub HasHalted : DeskView → DeskView → Client → CallStop → Type 0
+HasHalted before after p CallOutOfMemory = after ≡ withdrawn_desk before
+HasHalted before after p (JournalFull held) = (steps_made p ≡ p.step_limit) × (held ≡ p.step_limit) × (after ≡ withdrawn_desk before)
+HasHalted before after p (Busy found) = ⊥
 
 -- ---- closing
 

@@ -14,12 +14,19 @@ ghost use Rattle.server_desk.specs.Readings.{HasRead};
 ghost use Rattle.qws_base.specs.Points.{pixel_count};
 
 use crate::pictures::shown_word;
-use display_lock::{Busy, ServerTurn, try_server_turn};
+use display_lock::{ServerTurn, try_server_turn};
 use fb_words::{Head, Screen, closed_turns_are_kept, logs_stay_true};
 use qws_base::JournalEntry;
 use region_table::FIRST_PIXEL;
 use step_turns::{Changes, publish};
 use window_core::{Core, Plan};
+
+/// The server wasn't let in: the gate word that was found, and the plan as it was.
+#[derive(Drop)]
+pub(crate) struct ShutOut {
+    pub(crate) found: u64,
+    pub(crate) plan: Plan,
+}
 
 // Reads the first framebuffer words in a turn that has done nothing, and gives the colours that they show.
 fn read_pixels(turn: &mut ServerTurn, pixels: u64, shown: Vec<u32>) -> Vec<u32>
@@ -53,7 +60,7 @@ pub(crate) fn serve(
     number: u64,
     pixels: u64,
     shown: Vec<u32>,
-) -> Result<(JournalEntry, Vec<u32>), Busy>
+) -> Result<(JournalEntry, Vec<u32>), ShutOut>
     requires screen { head.old.screen ≡ screen.now }
     requires current { IsCurrent head.old core.old }
     requires belongs { Belongs core.old.size plan core.old.state }
@@ -69,12 +76,21 @@ pub(crate) fn serve(
     ensures grab { IfOk result (λ both. HasGrabbed head.new screen.now.setting.depth pixels number both.1.items) }
     ensures current { IsCurrent head.new core.new }
     ensures stubs { KeepsStubs head.old head.new }
-    ensures busy { IfErr result (λ busy. head.new ≡ shut_out head.old busy.found) }
-    ensures found { IfErr result (λ busy. busy.found ≢ closed_gate) }
+    ensures busy { IfErr result (λ out. head.new ≡ shut_out head.old out.found) }
+    ensures found { IfErr result (λ out. out.found ≢ closed_gate) }
+    ensures plan { IfErr result (λ out. out.plan ≡ plan) }
 {
     closed_turns_are_kept();
     let client = plan.client();
-    let mut turn = try_server_turn(head, screen)?;
+    let mut turn = match try_server_turn(head, screen) {
+        Ok(turn) => turn,
+        Err(busy) => {
+            return Err(ShutOut {
+                found: busy.found,
+                plan,
+            });
+        }
+    };
     let shown = read_pixels(&mut turn, pixels, shown);
     publish(&mut turn, core, &plan, changes, number);
     let (command, reply) = core.commit(plan);

@@ -8,7 +8,7 @@ ghost use Rattle.shared_desk.specs.Calls.{IsAnsweredIn, SharedStopsAt};
 
 use crate::callers::{Caller, HeldLease, Lease};
 use crate::shared::SharedDesk;
-use fb_words::{Pass, Screen};
+use fb_words::Screen;
 use qws_base::Command;
 use server_desk::{Answer, CallStop, Desk};
 use std::alloc::Global;
@@ -22,41 +22,6 @@ pub enum SharedStop {
     JournalFull { held: u64 },
     /// There was no memory for the plan or for the answer.
     OutOfMemory,
-}
-
-// Calls until the server's turn isn't refused.
-fn call_open<R: Wait>(
-    rt: &R,
-    alloc: Global,
-    screen: &Screen,
-    desk: &mut Desk,
-    pass: Pass,
-    command: &Command,
-) -> (Pass, Result<Answer, SharedStop>)
-    requires desk { desk.old.screen ≡ screen.now }
-    requires pass { pass.screen ≡ screen.now }
-    requires idle { pass.client.mode ≡ Idle }
-    ensures desk { SameDesk desk.new desk.old }
-    ensures answer { IfOk result.1 (λ answer. IsAnsweredIn screen.now.setting.size pass.client.number command.now answer) }
-    ensures pass { IfOk result.1 (λ answer. result.0 ≡ answered_pass pass command.now answer) }
-    ensures later { IfOk result.1 (λ answer. pass.client.seen < answer.number) }
-    ensures back { OnErr result.1 (result.0 ≡ pass) }
-    ensures stop { IfErr result.1 (λ stop. SharedStopsAt pass.client stop) }
-{
-    let mut pass = pass;
-    for _ in rt.forever() {
-        let (back, answer) = desk.try_call(alloc, screen, pass, command);
-        match answer {
-            Ok(answer) => return (back, Ok(answer)),
-            Err(CallStop::JournalFull { held }) => {
-                return (back, Err(SharedStop::JournalFull { held }));
-            }
-            Err(CallStop::OutOfMemory) => return (back, Err(SharedStop::OutOfMemory)),
-            Err(CallStop::Busy { .. }) => pass = back,
-        }
-        thread::yield_now();
-    }
-    unreachable!()
 }
 
 impl SharedDesk {
@@ -77,7 +42,8 @@ impl SharedDesk {
         unreachable!()
     }
 
-    /// Takes the desk, makes the call, trying again while a painter is in its turn, and gives the desk back, on every answer.
+    /// Takes the desk, makes the call, waiting while a painter is in its turn, and gives the desk back, on every answer. The
+    /// command is planned once, and the pass stays seated while the call waits.
     /// The caller's pass has grown by this call alone: the answer has its number in the journal and its reply. JournalFull
     /// comes exactly where the pass has made as many calls as its step limit; OutOfMemory for want of memory. After both the
     /// pass has made no call. The private part is the one that the caller had. It waits, and may not return.
@@ -102,8 +68,14 @@ impl SharedDesk {
     {
         let Caller { pass, lease } = caller;
         let (held, mut desk) = self.take(rt, lease);
-        let (pass, answer) = call_open(rt, alloc, screen, &mut desk, pass, command);
+        let (pass, answer) = desk.call(rt, alloc, screen, pass, command);
         let lease = self.give(held, desk);
-        (Caller { pass, lease }, answer)
+        let caller = Caller { pass, lease };
+        match answer {
+            Ok(answer) => (caller, Ok(answer)),
+            Err(CallStop::JournalFull { held }) => (caller, Err(SharedStop::JournalFull { held })),
+            Err(CallStop::OutOfMemory) => (caller, Err(SharedStop::OutOfMemory)),
+            Err(CallStop::Busy { .. }) => unreachable!(),
+        }
     }
 }
