@@ -15,9 +15,10 @@ use Rattle.shared_desk.specs.declared.known.DeskKey.{DeskKey}
 use Rattle.shared_desk.specs.declared.callers.Caller.{Caller}
 use Rattle.shared_desk.specs.Leases.{SharedView}
 use Rattle.shared_desk.specs.Together.{has_number, AreThere, rested}
-use Rattle.shared_desk.specs.Rule.{total, is_number, has, holding, held, part, parts, knows, AtHome, Kept, opening_view}
+use Rattle.turn_logs.specs.Lists.{total}
+use Rattle.shared_desk.specs.Rule.{is_number, has, holding, held, part, parts, knows, AtHome, Kept, opening_view}
 use Rattle.shared_desk.specs.Steps.{Seated, arrived, first_off, first_of, without_first, with_first, both}
-use Rattle.shared_desk.proofs.Totals.{total_set, total_snoc, total_one, total_two, total_append}
+use Rattle.turn_logs.proofs.Totals.{total_set, total_snoc, total_one, total_two, total_append}
 use Rattle.shared_desk.proofs.Keeping.{States, OfDesk, of_desk_set}
 
 -- callers at rest hold nothing

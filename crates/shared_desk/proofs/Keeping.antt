@@ -11,9 +11,10 @@ use Rattle.shared_desk.specs.Desks.{SameDesk}
 use Rattle.shared_desk.specs.declared.known.Part.{Part}
 use Rattle.shared_desk.specs.declared.known.Known.{Known}
 use Rattle.shared_desk.specs.declared.known.DeskKey.{DeskKey}
-use Rattle.shared_desk.specs.Rule.{total, has, held, part, holder, alone, only, AtHome, Kept}
+use Rattle.turn_logs.specs.Lists.{total}
+use Rattle.shared_desk.specs.Rule.{has, held, part, holder, alone, only, AtHome, Kept}
 use Rattle.shared_desk.specs.Steps.{Seated, resting, holds_slot, taken, given}
-use Rattle.shared_desk.proofs.Totals.{total_set, total_one}
+use Rattle.turn_logs.proofs.Totals.{total_set, total_one}
 
 abbrev pub States : Type 0
 States = State (Option DeskView) Known

@@ -10,7 +10,7 @@ use Rattle.shared_desk.specs.declared.callers.Caller.{Caller}
 use Rattle.shared_desk.specs.Leases.{SharedView, LeaseView, IsOf, lease_of}
 use Rattle.shared_desk.specs.Rule.{part, parts, knows, alone, only}
 use Rattle.shared_desk.specs.Steps.{Seated, resting, without_first, with_first, both}
-use Rattle.shared_desk.proofs.Totals.{total_one}
+use Rattle.turn_logs.proofs.Totals.{total_one}
 use Rattle.shared_desk.specs.Together.{AreAll, AreThere, has_number, rested, passes_of}
 
 pub nothing_left : {A : Type 0} (l : List A) → length l ≡ 0 → l ≡ []

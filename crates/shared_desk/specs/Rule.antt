@@ -1,19 +1,15 @@
 -- The rule of the desk's table.
-use Rattle.std.specs.Prelude.{◌≡◌, ℕ, zero, suc, ◌+◌, ◌≤◌, ◌==◌, nat_lt, if◌then◌else◌, true, false, List, [], ◌∷◌, length, slice_index, Option, Some}
+use Rattle.std.specs.Prelude.{◌≡◌, ℕ, zero, suc, ◌≤◌, ◌==◌, nat_lt, if◌then◌else◌, true, false, List, [], ◌∷◌, length, slice_index, Option, Some}
 use mathlib.Core.Option.{some}
 use lib.ListN.{get_elem?}
 use Rattle.atomic_table.specs.Table.{State}
+use Rattle.turn_logs.specs.Lists.{total}
 use Rattle.fb_words.specs.Views.{no_setting, opening_server}
 use Rattle.server_desk.specs.DeskViews.{DeskView}
 use Rattle.shared_desk.specs.Desks.{SameDesk}
 use Rattle.shared_desk.specs.declared.known.Part.{Part}
 use Rattle.shared_desk.specs.declared.known.Known.{Known}
 use Rattle.shared_desk.specs.declared.known.DeskKey.{DeskKey}
-
--- f of each, added up
-abbrev pub total : {A : Type 0} → (A → ℕ) → List A → ℕ
-total f [] = 0
-total f (x ∷ xs) = f x + total f xs
 
 abbrev pub is_number : ℕ → Part → ℕ
 is_number c p = if p.number == c then 1 else 0

@@ -3,11 +3,12 @@ use Rattle.std.specs.Prelude.{◌≡◌, ℕ, ◌<◌, ◌≤◌, ◌==◌, if�
 use mathlib.Core.Option.{some}
 use lib.ListN.{get_elem?}
 use Rattle.server_desk.specs.DeskViews.{DeskView}
+use Rattle.turn_logs.specs.Lists.{total}
 use Rattle.fb_words.specs.Views.{PassView}
 use Rattle.shared_desk.specs.declared.callers.Caller.{Caller}
 use Rattle.shared_desk.specs.declared.known.Part.{Part}
 use Rattle.shared_desk.specs.Leases.{SharedView, IsOf, lease_of}
-use Rattle.shared_desk.specs.Rule.{total, part}
+use Rattle.shared_desk.specs.Rule.{part}
 
 -- all callers of a shared desk, by number
 pub record AreAll (s : SharedView) (callers : List Caller) : Type 0 where
