@@ -6,7 +6,7 @@ use mathlib.Core.Logic.{dite}
 use native.Mathlib.Decide.{ℕ_discrete}
 use lib.ListN.{get_elem?}
 use Rattle.atomic_table.specs.Table.{step, opening, Final, Seen, Splits, Joins, Enters}
-use Rattle.atomic_table.proofs.Lists.{at_set, at_snoc}
+use Rattle.atomic_table.proofs.Lists.{at_snoc}
 use Rattle.server_desk.specs.DeskViews.{DeskView}
 use Rattle.shared_desk.specs.Desks.{SameDesk}
 use Rattle.shared_desk.specs.declared.known.Part.{Part}

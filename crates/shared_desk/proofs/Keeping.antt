@@ -4,7 +4,7 @@ use Rattle.std.proofs.lemmas.List.{get_or-set_same}
 use mathlib.Core.Option.{some, none, some-injective}
 use lib.ListN.{get_elem?}
 use prog.Atomic.{either}
-use Rattle.atomic_table.specs.Table.{State, Me, step, keeps, takes, gives, rest, Allows, Splits, Joins, Enters}
+use Rattle.atomic_table.specs.Table.{State, step, keeps, takes, gives, rest, Allows}
 use Rattle.atomic_table.proofs.Lists.{at_set, set_here, exchanged}
 use Rattle.server_desk.specs.DeskViews.{DeskView}
 use Rattle.shared_desk.specs.Desks.{SameDesk}

@@ -5,6 +5,7 @@ pub mod FirstTable
 pub mod Carrying
 pub mod Law
 pub mod Standing
+pub mod Bare
 pub mod Sessions
 pub mod Publishing
 pub mod Phases

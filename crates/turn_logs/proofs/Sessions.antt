@@ -1,17 +1,16 @@
 -- The law of a session: the law of carrying, turn by turn.
-use Rattle.std.proofs.Common.{◌≡◌, ℕ, ◌+◌, Bool, true, false, if◌then◌else◌, List, [], ◌∷◌, ◌++◌, map, Option, Some, None, refl, sym, ap, ◌∙◌, subst}
-use Rattle.std.specs.Prelude.{is_none, slice_index}
+use Rattle.std.proofs.Common.{◌≡◌, ℕ, ◌+◌, true, if◌then◌else◌, List, [], ◌∷◌, ◌++◌, map, refl, sym, ap, ◌∙◌, subst}
+use Rattle.std.specs.Prelude.{is_none}
 use Rattle.qws_base.specs.Points.{pixel_count}
-use Rattle.qws_base.specs.Inks.{ink_after}
-use Rattle.qws_base.specs.Windows.{Layout, layout_of, is_slot}
-use Rattle.qws_base.specs.States.{State, is_refused, moved_slot}
+use Rattle.qws_base.specs.Windows.{Layout, layout_of}
+use Rattle.qws_base.specs.States.{is_refused, moved_slot}
 use Rattle.qws_base.specs.Steps.{step}
 use Rattle.qws_base.specs.StepLaws.{RefusedLaw}
 use Rattle.qws_base.specs.Arranged.{IsArranged, ArrangedLaw}
 use Rattle.qws_base.specs.Sides.{Sides}
 use Rattle.qws_base.specs.declared.windows.WindowView.{WindowView}
 use Rattle.qws_base.specs.Sheets.{Sheet}
-use Rattle.qws_base.specs.Scenes.{Setting, by_pixels, scene_after_step, pixel_after_paint, ink_on}
+use Rattle.qws_base.specs.Scenes.{Setting, scene_after_step}
 use Rattle.qws_base.specs.Histories.{World, world_from, scene_after, next_world}
 use Rattle.qws_base.specs.declared.windows.Cursor.{Cursor}
 use Rattle.qws_base.specs.declared.commands.Command.{Command}
@@ -20,7 +19,6 @@ use Rattle.qws_base.specs.declared.replies.PaintReply.{PaintReply}
 use Rattle.region_table.specs.Layouts.{layout_of_table}
 use Rattle.region_table.specs.Published.{TellSame, AreSlotted}
 use Rattle.region_table.specs.declared.tables.Table.{Table}
-use Rattle.region_table.proofs.Pixels.{at_pixel}
 use Rattle.region_table.proofs.Openings.{opening_law}
 use Rattle.qws_base.specs.Shown.{shown_picture}
 use Rattle.std.proofs.lemmas.List.{get_or-replicate}
@@ -33,7 +31,8 @@ use Rattle.turn_logs.specs.Carries.{TrueIn, words_after, StandFor, IsBare, Carri
 use Rattle.turn_logs.specs.Sessions.{Served, Drawn, entry_of, logs_of, table_after, stamp_after, IsServed, IsAt, SessionLaw, PictureLaw}
 use Rattle.turn_logs.proofs.Law.{step_law, paint_law}
 use Rattle.turn_logs.proofs.Joining.{on-append, written-append}
-use Rattle.turn_logs.proofs.Standing.{bare_after, opening_stands, picture_shown}
+use Rattle.turn_logs.proofs.Standing.{opening_stands, picture_shown}
+use Rattle.turn_logs.proofs.Bare.{bare_step, bare_paint}
 
 -- ---- two logs, one after the other
 
@@ -80,15 +79,6 @@ module _ (refused : RefusedLaw) (arranged : ArrangedLaw) (setting : Setting) (wo
       (published_law setting.size (step setting.size world.state client command).0 (stamp + 1) after served.left
       (slotted setting.size (step setting.size world.state client command).0.windows (arranged.stays setting.size world.state client command at.arranged))))
 
-  -- the scene after a step is the backdrop where nobody owns the pixel
-  bare_step : (client : ℕ) (command : Command) (is : Bool) → IsBare setting (layout_of setting.size world.state.windows) world.scene
-      → (is ≡ true → (step setting.size world.state client command).0 ≡ world.state)
-      → IsBare setting (layout_of setting.size (step setting.size world.state client command).0.windows)
-      (if is then world.scene else scene_after_step setting (layout_of setting.size world.state.windows) (layout_of setting.size (step setting.size world.state client command).0.windows) (moved_slot command) world.scene)
-  bare_step client command true bare stays = subst (λ (s : State). IsBare setting (layout_of setting.size s.windows) world.scene) (sym (stays refl)) bare
-  bare_step client command false bare stays =
-      bare_after setting (layout_of setting.size world.state.windows) (layout_of setting.size (step setting.size world.state client command).0.windows) (moved_slot command) world.scene
-
   after_step : (client : ℕ) (command : Command) (reply : Reply) (after : Table) (log : List Item) → IsAt setting world stamp table words → TrueIn words log
       → IsServed setting world.state stamp table client command reply after log
       → IsAt setting (next_world setting world (entry_of (Served client command reply after log))) (stamp + 1) after (words_after words log)
@@ -98,24 +88,10 @@ module _ (refused : RefusedLaw) (arranged : ArrangedLaw) (setting : Setting) (wo
     stands = subst (StandFor setting after.cursor (words_after words log)) (step_scene client command reply after log at served)
         (step_law setting table after command reply words world.scene log at.stands
         (bare_by setting (layout_of_table setting.size table) (layout_of setting.size world.state.windows) world.scene (tells at) at.bare) is_true served.carried);
-    bare = bare_step client command (is_refused (step setting.size world.state client command).1) at.bare (refused setting.size world.state client command);
+    bare = bare_step refused setting world client command (is_refused (step setting.size world.state client command).1) refl at.bare;
   }
 
   -- ---- a paint
-
-  bare_paint : (client slot : ℕ) (sheet : Sheet) (own : Bool) → IsBare setting (layout_of setting.size world.state.windows) world.scene
-      → IsBare setting (layout_of setting.size world.state.windows)
-      (if own then by_pixels setting.size (pixel_after_paint setting (layout_of setting.size world.state.windows) slot sheet world.scene) else world.scene)
-  bare_paint client slot sheet false bare = bare
-  bare_paint client slot sheet true bare = λ p within none.
-      let layout : Layout = layout_of setting.size world.state.windows in
-      at_pixel setting.size (pixel_after_paint setting layout slot sheet world.scene) p 0 within
-      ∙ ap (λ b. if b then ink_after setting.depth (ink_on setting.size.w (layout.origin slot) sheet p) (slice_index world.scene p) else slice_index world.scene p) (unowned slot (layout.owner p) none)
-      ∙ bare p within none
-    where
-      unowned : (s : ℕ) (found : Option ℕ) → is_none found ≡ true → is_slot s found ≡ false
-      unowned s None none = refl
-      unowned s (Some other) none = cc
 
   after_paint : (client slot tag : ℕ) (sheet : Sheet) (reply : PaintReply) (log : List Item) → IsAt setting world stamp table words → TrueIn words log
       → CarriesPaintUnder setting table slot sheet reply log → RepliesUnder setting table client slot sheet reply
@@ -126,7 +102,7 @@ module _ (refused : RefusedLaw) (arranged : ArrangedLaw) (setting : Setting) (wo
     stands = subst (StandFor setting table.cursor (words_after words log))
         (scene_same setting (layout_of_table setting.size table) (layout_of setting.size world.state.windows) client slot sheet world.scene (tells at))
         (paint_law setting table client slot sheet reply words world.scene log at.stands is_true carried replies);
-    bare = bare_paint client slot sheet ((layout_of setting.size world.state.windows).is_own client slot) at.bare;
+    bare = bare_paint refused setting world slot sheet ((layout_of setting.size world.state.windows).is_own client slot) at.bare;
   }
 
 -- ---- turn by turn
