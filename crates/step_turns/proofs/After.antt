@@ -24,7 +24,7 @@ use Rattle.region_table.specs.declared.tables.Table.{Table}
 use Rattle.turn_logs.specs.Publishing.{IsPublishable, RowsFollow}
 use Rattle.band_regions.proofs.Corners.{count_is}
 use Rattle.window_core.specs.CoreViews.{CoreView, PlanView, Belongs, IsServed, IsCursorOn}
-use Rattle.window_core.proofs.RequestLemmas.{near_origin}
+use Rattle.window_arrangements.proofs.RequestLemmas.{near_origin}
 use Rattle.step_regions.proofs.Lost.{below_all}
 use Rattle.table_turns.proofs.Spelled.{written_law}
 use Rattle.desk_turns.specs.Rows.{IsPlannedRow, SpellsRows}

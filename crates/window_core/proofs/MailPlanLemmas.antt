@@ -25,7 +25,7 @@ use Rattle.window_core.specs.declared.held.Planned.{Planned}
 use Rattle.window_core.specs.declared.changes.MailChange.{MailChange}
 use Rattle.window_core.specs.declared.changes.MailChange.TheVariants.{Nothing}
 use Rattle.window_core.specs.Changes.{CanCarry, mail_after}
-use Rattle.window_core.specs.Arrangements.{ArrangementView}
+use Rattle.window_arrangements.specs.Arrangements.{ArrangementView}
 use Rattle.window_core.specs.Planning.{size_of, state_of, IsPlanned, Keeps, IsStopped}
 use Rattle.window_core.proofs.PlanLemmas.{none_changed, refused_planned}
 

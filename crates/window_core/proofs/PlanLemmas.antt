@@ -27,7 +27,7 @@ use Rattle.window_core.specs.declared.held.Planned.{Planned}
 use Rattle.window_core.specs.declared.changes.MailChange.{MailChange}
 use Rattle.window_core.specs.declared.changes.MailChange.TheVariants.{Nothing, Join, Leave, Send, Take, Regions}
 use Rattle.window_core.specs.Changes.{CanCarry, gone_forgotten, mail_after}
-use Rattle.window_core.specs.Arrangements.{ArrangementView}
+use Rattle.window_arrangements.specs.Arrangements.{ArrangementView}
 use Rattle.window_core.specs.Planning.{size_of, state_of, IsPlanned, AreTold, Keeps, Arranges, IsOutcome}
 
 -- ---- windows that stay

@@ -30,7 +30,7 @@ use Rattle.std.specs.Arc.{arc_value}
 use Rattle.qws_base.specs.Arranged.{IsArranged}
 use Rattle.window_core.specs.declared.held.Held.{Held}
 use Rattle.window_core.specs.declared.held.Planned.{Planned}
-use Rattle.window_core.specs.Arrangements.{ArrangementView}
+use Rattle.window_arrangements.specs.Arrangements.{ArrangementView}
 use Rattle.window_core.specs.Planning.{size_of, state_of, plan_of}
 use Rattle.window_core.specs.CoreViews.{CoreView, PlanView, Belongs, IsCursorOn, IsServed}
 

@@ -9,7 +9,7 @@ use Rattle.qws_base.specs.Refusals.{when, first_of, no_window, not_yours}
 use Rattle.qws_base.specs.declared.replies.Refusal.TheVariants.{NoWindow, NotYours}
 use Rattle.qws_base.specs.declared.windows.WindowView.{WindowView}
 use Rattle.qws_base.proofs.ListLemmas.{found_member}
-use Rattle.window_core.proofs.ArrangementLemmas.{slot_is}
+use Rattle.window_arrangements.proofs.ArrangementLemmas.{slot_is}
 
 pub found_slot : (slot : ℕ) (ws : List WindowView) (w : WindowView) → find (has_slot slot) ws ≡ Some w → w.slot ≡ slot
 found_slot slot ws w e = slot_is slot w (found_member (λ v. v.slot ≡ v.slot) (has_slot slot) ws w (λ k d l. refl_of _) e).1

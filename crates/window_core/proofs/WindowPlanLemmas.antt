@@ -19,7 +19,7 @@ use Rattle.window_core.specs.declared.held.Held.{Held}
 use Rattle.window_core.specs.declared.held.Planned.{Planned}
 use Rattle.window_core.specs.declared.changes.MailChange.TheVariants.{Nothing}
 use Rattle.window_core.specs.Changes.{gone_forgotten}
-use Rattle.window_core.specs.Arrangements.{ArrangementView}
+use Rattle.window_arrangements.specs.Arrangements.{ArrangementView}
 use Rattle.window_core.specs.Planning.{size_of, state_of, IsPlanned, Keeps, Arranges, IsOutcome}
 use Rattle.window_core.proofs.PlanLemmas.{first_three, outcome_planned, arranged_planned}
 use Rattle.window_core.proofs.MailPlanLemmas.{if_refused}

@@ -15,7 +15,7 @@ use Rattle.window_core.specs.declared.held.Held.{Held}
 use Rattle.window_core.specs.declared.held.Planned.{Planned}
 use Rattle.window_core.specs.declared.changes.MailChange.{MailChange}
 use Rattle.window_core.specs.declared.changes.MailChange.TheVariants.{Nothing, Join, Leave, Send, Take, Regions}
-use Rattle.window_core.specs.Arrangements.{ArrangementView}
+use Rattle.window_arrangements.specs.Arrangements.{ArrangementView}
 use Rattle.window_core.specs.CoreViews.{PlanView, Belongs}
 
 -- the size of the screen

@@ -4,9 +4,9 @@ ghost use Rattle.std.specs.List.{fold};
 ghost use Rattle.qws_base.specs.Steps.{owner_told};
 ghost use Rattle.window_core.specs.Changes.{CanCarry, gone_forgotten, mail_after};
 
-use crate::windows::window_of;
 use qcop_channels::{Channels, PreparedJoin, PreparedSend};
 use qws_base::{Bytes, WindowView};
+use window_arrangements::window_of;
 
 /// What an accepted command does to channels and mailboxes, with all memory that it takes.
 #[derive(Debug, Drop)]

@@ -7,7 +7,6 @@ ghost use Rattle.qws_base.specs.Steps.{step};
 ghost use Rattle.window_core.specs.CoreViews.{Belongs, CanRise, IsServed};
 ghost use Rattle.window_core.specs.Planning.{plan_of};
 
-use crate::arrangements::Arrangement;
 use crate::changes::carry;
 use crate::held::{Held, Planned};
 use crate::plans::Plan;
@@ -17,6 +16,7 @@ use qws_base::{Command, Cursor, OutOfMemory, Reply, Rgb, Size, WindowView};
 use std::alloc::Global;
 use std::marker::Model;
 use std::sync::Arc;
+use window_arrangements::Arrangement;
 
 /// The state of the server, for a screen of a size and a backdrop: windows from front to back, the cursor, channels and
 /// mailboxes, and a revision for each slot.

@@ -2,12 +2,12 @@
 ghost use Rattle.std.specs.Prelude.{IfOk};
 ghost use Rattle.window_core.specs.Planning.{Keeps};
 
-use crate::arrangements::Arrangement;
 use crate::changes::MailChange;
 use qcop_channels::Channels;
 use qws_base::{Cursor, OutOfMemory, Refusal, Reply};
 use std::alloc::Global;
 use std::sync::Arc;
+use window_arrangements::Arrangement;
 
 /// The state of the server. Windows with their regions, and the cursor, are shared with plans that leave them.
 #[derive(Debug, Drop)]

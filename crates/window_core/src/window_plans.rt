@@ -8,14 +8,14 @@ ghost use Rattle.qws_base.specs.declared.commands.Command.TheVariants.{Create, D
 ghost use Rattle.window_core.specs.CoreViews.{IsServed, CanRise};
 ghost use Rattle.window_core.specs.Planning.{IsPlanned, IsOutcome, Arranges, size_of, state_of};
 
-use crate::arrangements::Arrangement;
 use crate::changes::MailChange;
-use crate::checks::{bad_place, changed_slots, modified_slots, off_range, risen, too_complex};
 use crate::held::{Held, Planned};
-use crate::windows::window_of;
 use qws_base::{OutOfMemory, Point, Rects, Refusal, Reply, WindowView};
 use std::alloc::Global;
 use std::sync::Arc;
+use window_arrangements::{
+    Arrangement, bad_place, changed_slots, modified_slots, off_range, risen, too_complex, window_of,
+};
 
 impl Held {
     /// The client's window of the slot; else the refusal.

@@ -1,7 +1,7 @@
 -- What a committed plan leaves is served, since each step of a client leaves it so.
 use Rattle.std.proofs.Common.{refl, sym, ap, ◌∙◌, subst}
 use Rattle.std.specs.Prelude.{All}
-use Rattle.window_core.specs.Arrangements.{ArrangementView}
+use Rattle.window_arrangements.specs.Arrangements.{ArrangementView}
 use Rattle.window_core.specs.CoreViews.{CoreView, IsServed}
 use Rattle.window_core.specs.declared.held.Held.{Held}
 use Rattle.window_core.proofs.ServedLemmas.{IsOwned, planned_served}

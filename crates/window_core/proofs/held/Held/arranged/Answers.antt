@@ -2,7 +2,7 @@ use Rattle.std.proofs.Common.{◌≡◌, ◌∙◌, ◌+◌, map, get_or, if◌t
 use Rattle.std.specs.List.{filter}
 use Rattle.qws_base.specs.Stacking.{slots}
 use Rattle.qws_base.specs.Steps.{is_changed, is_modified}
-use Rattle.window_core.specs.Arrangements.{ArrangementView}
+use Rattle.window_arrangements.specs.Arrangements.{ArrangementView}
 use Rattle.window_core.specs.Planning.{size_of, state_of}
 use Rattle.window_core.proofs.PlanLemmas.{same_risen}
 use Rattle.window_core.proofs.held.Held.arranged.Goals as goal

@@ -1,7 +1,7 @@
 use Rattle.std.proofs.Common.{◌≡◌, ◌∙◌, Some, None, sym, ap, subst}
 use Rattle.std.specs.List.{find}
 use Rattle.qws_base.specs.Windows.{has_slot}
-use Rattle.window_core.specs.Arrangements.{ArrangementView}
+use Rattle.window_arrangements.specs.Arrangements.{ArrangementView}
 use Rattle.window_core.specs.Planning.{state_of}
 use Rattle.window_core.proofs.WindowLemmas.{own_none, own_other, own_same}
 use Rattle.window_core.proofs.held.Held.own_window.Goals as goal

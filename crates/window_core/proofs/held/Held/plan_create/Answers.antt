@@ -1,8 +1,8 @@
 use Rattle.std.proofs.Common.{◌≡◌, ◌∙◌, true, false, Option, Some, sym, ap, subst, arith}
 use Rattle.std.specs.Prelude.{nat_lt, is_none, IfSome}
 use Rattle.qws_base.specs.Stacking.{free_slot, windows_created}
-use Rattle.window_core.specs.Arrangements.{ArrangementView}
-use Rattle.window_core.specs.declared.arrangements.Created.{Created}
+use Rattle.window_arrangements.specs.Arrangements.{ArrangementView}
+use Rattle.window_arrangements.specs.declared.arrangements.Created.{Created}
 use Rattle.window_core.specs.Planning.{state_of}
 use Rattle.window_core.proofs.WindowPlanLemmas.{none_is, if_high_layer, if_none_free, if_created}
 use Rattle.window_core.proofs.held.Held.plan_create.Goals as goal

@@ -6,7 +6,7 @@ use Rattle.qws_base.specs.Stacking.{with_origin}
 use Rattle.qws_base.specs.Refusals.{off_screen}
 use Rattle.qws_base.specs.Arranged.{IsWindow}
 use Rattle.qws_base.specs.declared.commands.Command.TheVariants.{Move}
-use Rattle.window_core.specs.Arrangements.{ArrangementView}
+use Rattle.window_arrangements.specs.Arrangements.{ArrangementView}
 use Rattle.window_core.specs.Planning.{size_of, state_of}
 use Rattle.window_core.proofs.WindowLemmas.{found_slot, found_has}
 use Rattle.window_core.proofs.MailPlanLemmas.{if_refused}

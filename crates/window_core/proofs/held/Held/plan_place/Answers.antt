@@ -12,7 +12,7 @@ use Rattle.qws_base.specs.declared.commands.Command.TheVariants.{CursorMove}
 use Rattle.qws_base.specs.declared.replies.Reply.TheVariants.{Refused, Done}
 use Rattle.qws_base.specs.declared.replies.Refusal.TheVariants.{OffScreen}
 use Rattle.qws_base.proofs.Integers.{spans_not_before, spans_not_after, spans_from}
-use Rattle.window_core.specs.Arrangements.{ArrangementView}
+use Rattle.window_arrangements.specs.Arrangements.{ArrangementView}
 use Rattle.window_core.specs.Planning.{size_of}
 use Rattle.window_core.proofs.MailPlanLemmas.{if_pointed, if_refused, cursor_with, same_cursor}
 use Rattle.window_core.proofs.held.Held.plan_place.Goals as goal

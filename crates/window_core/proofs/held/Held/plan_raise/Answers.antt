@@ -4,7 +4,7 @@ use Rattle.qws_base.specs.Windows.{has_slot}
 use Rattle.qws_base.specs.Stacking.{windows_raised}
 use Rattle.qws_base.specs.Arranged.{IsWindow}
 use Rattle.qws_base.specs.declared.commands.Command.TheVariants.{Raise}
-use Rattle.window_core.specs.Arrangements.{ArrangementView}
+use Rattle.window_arrangements.specs.Arrangements.{ArrangementView}
 use Rattle.window_core.specs.Planning.{size_of, state_of}
 use Rattle.window_core.proofs.WindowLemmas.{found_slot, found_has}
 use Rattle.window_core.proofs.WindowPlanLemmas.{if_own, if_not_own, found_own}

@@ -4,7 +4,7 @@ use Rattle.qws_base.specs.Stacking.{with_region}
 use Rattle.qws_base.specs.Refusals.{off_screen, bad_region}
 use Rattle.qws_base.specs.Arranged.{IsWindow}
 use Rattle.qws_base.specs.declared.commands.Command.TheVariants.{Region}
-use Rattle.window_core.specs.Arrangements.{ArrangementView}
+use Rattle.window_arrangements.specs.Arrangements.{ArrangementView}
 use Rattle.window_core.specs.Planning.{size_of, state_of}
 use Rattle.window_core.proofs.WindowLemmas.{found_slot, found_has}
 use Rattle.window_core.proofs.MailPlanLemmas.{if_refused}
