@@ -1,6 +1,6 @@
 -- Logs that grow pixel by pixel, and pixels side by side.
-use Rattle.std.proofs.Common.{◌≡◌, ℕ, zero, suc, ◌+◌, ◌*◌, ◌<◌, List, [], ◌∷◌, ◌++◌, length, length-append, append-nil, append_assoc, get_or, sym, refl, ap, ◌∙◌, arith, Some, nat_abs, take, map}
-use Rattle.std.specs.List.{flat_map, range_with_len}
+use Rattle.std.proofs.Common.{◌≡◌, ℕ, ◌+◌, ◌*◌, ◌<◌, List, [], ◌∷◌, ◌++◌, length, length-append, append-nil, append_assoc, get_or, sym, refl, ap, ◌∙◌, arith, Some, nat_abs, take, map}
+use Rattle.std.specs.List.{flat_map}
 use Rattle.std.proofs.lemmas.List.{take_more, map-append}
 use Rattle.qws_base.specs.Points.{point_of}
 use Rattle.qws_base.specs.Scenes.{Setting, ink_on}
@@ -21,8 +21,8 @@ use Rattle.fb_words.specs.Clips.{look_of, looked_in, log_in}
 use Rattle.fb_words.specs.Looks.{LookedIn}
 use Rattle.sw_cursor.specs.Covers.{PutsInk, put_items}
 use Rattle.shared_painter.specs.Painted.{zipped, items_at, PaintsPixels, OwnsRect, cut_pixels}
-use Rattle.shared_painter.specs.Cuts.{cut_rect}
-use Rattle.shared_painter.proofs.Cutting.{cut_both}
+use Rattle.picture_cuts.specs.Cuts.{cut_rect}
+use Rattle.picture_cuts.proofs.CutPoints.{cut_both}
 
 zipped-append : (f : ℕ → ℕ → List Item) (ps qs vs us : List ℕ) → length vs ≡ length ps → zipped f (ps ++ qs) (vs ++ us) ≡ zipped f ps vs ++ zipped f qs us
 zipped-append f [] qs [] us e = refl
@@ -67,22 +67,6 @@ parts_more width origin reach rects i d low =
     let f : Rect → Rect = cut_rect origin reach in
     ap (cut_pixels width origin reach) (take_more rects i d low) ∙ ap (flat_map (rect_pixels width)) (map-append f (take i rects) (get_or rects i d ∷ []))
     ∙ flat_map-append (rect_pixels width) (map f (take i rects)) (f (get_or rects i d) ∷ []) ∙ ap (λ l. cut_pixels width origin reach (take i rects) ++ l) (append-nil (rect_pixels width (f (get_or rects i d))))
-
-no_columns : (f : ℕ → ℕ) (l : List ℕ) → flat_map (λ i. range_with_len (f i) 0) l ≡ []
-no_columns f [] = refl
-no_columns f (x ∷ l) = no_columns f l
-
--- a part without width or height has no pixels
-pub no_part : (width : ℕ) (r : Rect) → (0 < r.w → 0 < r.h → ⊥) → rect_pixels width r ≡ []
-no_part width r none = go r.w r.h none
-  where
-    f : ℕ → ℕ
-    f i = (nat_abs r.y + i) * width + nat_abs r.x
-
-    go : (w h : ℕ) → (0 < w → 0 < h → ⊥) → flat_map (λ i. range_with_len (f i) w) (range_with_len 0 h) ≡ []
-    go zero h none = no_columns f (range_with_len 0 h)
-    go (suc w) zero none = refl
-    go (suc w) (suc h) none = absurd (none (omega arith) (omega arith))
 
 pub part_owned : (p : Client) (origin : Point) (reach r : Rect) → OwnsRect p r → OwnsRect p (cut_rect origin reach r)
 part_owned p origin reach r owns k within has = owns k within (cut_both origin reach r (point_of p.setting.size.w k) has).0

@@ -1,18 +1,14 @@
 -- The pixels of a clip that a picture reaches are pixels of its slot, among them all with ink, each once.
-use Rattle.std.proofs.Common.{◌≡◌, ℕ, Bool, true, false, not, if◌then◌else◌, List, [], ◌∷◌, zero, suc, ◌&&◌, map, sym, refl, ap, ◌∙◌, arith, ◌+ℤ◌, ◌-ℤ◌, ℤ}
-use Rattle.std.specs.Prelude.{All, slice_index_or}
-use Rattle.std.proofs.lemmas.Bool.{false≢true}
-use Rattle.std.proofs.lemmas.Int.{ints}
+use Rattle.std.proofs.Common.{◌≡◌, ℕ, true, List, [], ◌∷◌, zero, suc, map, sym, ap, ◌∙◌}
+use Rattle.std.specs.Prelude.{All}
 use mathlib.Core.Option.{some, some-injective, some-ne-none}
 use lib.ListN.{get_elem?}
-use Rattle.qws_base.specs.Inks.{is_skip}
-use Rattle.qws_base.specs.Points.{spans, holds, any_holds, shifted, minus, point_of}
+use Rattle.qws_base.specs.Points.{holds, any_holds, shifted, point_of}
 use Rattle.qws_base.specs.RectPixels.{IsWithin, AreDisjoint, RectPixelsLaw}
 use Rattle.qws_base.specs.Scenes.{has_ink}
-use Rattle.qws_base.specs.Sheets.{Sheet, place_in}
+use Rattle.qws_base.specs.Sheets.{Sheet}
 use Rattle.qws_base.specs.Sides.{Sides}
 use Rattle.qws_base.specs.Windows.{owns}
-use Rattle.qws_base.specs.declared.inks.Ink.TheVariants.{Skip}
 use Rattle.qws_base.specs.declared.points.Point.{Point}
 use Rattle.qws_base.specs.declared.points.Rect.{Rect}
 use Rattle.qws_base.proofs.ListLemmas.{each_map}
@@ -23,25 +19,11 @@ use Rattle.turn_logs.specs.Pixels.{AreToPaint}
 use Rattle.turn_logs.specs.Tables.{table_of, IsOnScreen}
 use Rattle.turn_logs.proofs.Totals.{from_map}
 use Rattle.clip_refetch.specs.Clips.{ClipView, IsPublishedIn}
-use Rattle.shared_painter.specs.Cuts.{cut_rect}
+use Rattle.picture_cuts.specs.Cuts.{cut_rect}
+use Rattle.picture_cuts.proofs.CutPoints.{cut_both, both_cut, cut_within}
+use Rattle.picture_cuts.proofs.CutPixels.{reached}
 use Rattle.shared_painter.specs.Painted.{cut_pixels}
-use Rattle.shared_painter.proofs.Cutting.{cut_both, both_cut, cut_within, within_screen}
-
--- a picture has ink only where it reaches
-moved_span : (a b at : ℤ) (n : ℕ) → spans b n (at -ℤ a) ≡ spans (a +ℤ b) n at
-moved_span a b at n = grind (arith, ints)
-
-pub reached : (width : ℕ) (origin : Point) (sheet : Sheet) (p : ℕ) → has_ink width origin sheet p ≡ true → holds (shifted origin sheet.reach) (point_of width p) ≡ true
-reached width origin sheet p inked = go (holds sheet.reach (minus (point_of width p) origin)) refl inked
-  where
-    at : Point
-    at = minus (point_of width p) origin
-
-    go : (b : Bool) → holds sheet.reach (minus (point_of width p) origin) ≡ b → not (is_skip (if b then slice_index_or sheet.inks (place_in sheet.reach (minus (point_of width p) origin)) Skip else Skip)) ≡ true → holds (shifted origin sheet.reach) (point_of width p) ≡ true
-    go true is inked = let r : Rect = sheet.reach in let q : Point = point_of width p in
-        ap (λ b. b && spans (origin.y +ℤ r.y) r.h q.y) (sym (moved_span origin.x r.x q.x r.w))
-        ∙ ap (λ b. spans r.x r.w (q.x -ℤ origin.x) && b) (sym (moved_span origin.y r.y q.y r.h)) ∙ is
-    go false is inked = absurd (false≢true inked)
+use Rattle.shared_painter.proofs.Cutting.{within_screen}
 
 cut_at : (f : Rect → Rect) (rects : List Rect) (k : ℕ) (r : Rect) → get_elem? rects k ≡ some r → get_elem? (map f rects) k ≡ some (f r)
 cut_at f [] k r at = absurd (some-ne-none r (sym at))

@@ -1,4 +1,3 @@
-pub mod Cuts
 pub mod Painted
 pub mod Carried
 pub mod Answers

@@ -18,7 +18,7 @@ use Rattle.fb_words.specs.Clips.{looked_in, log_in}
 use Rattle.fb_words.specs.Looks.{LookedIn}
 use Rattle.fb_words.specs.Rights.{Owns}
 use Rattle.sw_cursor.specs.Covers.{put_items}
-use Rattle.shared_painter.specs.Cuts.{cut_rect}
+use Rattle.picture_cuts.specs.Cuts.{cut_rect}
 
 -- f of each pixel and what was found there, one after the other
 abbrev pub zipped : (ℕ → ℕ → List Item) → List ℕ → List ℕ → List Item

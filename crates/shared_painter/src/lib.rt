@@ -1,7 +1,6 @@
 //! The painter over the shared words.
 #![tactic(auto)]
 
-mod cuts;
 mod laws;
 mod painters;
 mod rows;

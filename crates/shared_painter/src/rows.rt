@@ -10,10 +10,10 @@ ghost use Rattle.qws_base.specs.Shown.{cell_on};
 ghost use Rattle.sw_cursor.specs.Covers.{PaintsOn, IsCover, bare_cursor};
 ghost use Rattle.qws_base.specs.RectPixels.{rect_pixels};
 ghost use Rattle.shared_painter.specs.Painted.{PaintsPixels, PaintsEvenly, OwnsSpan, OwnsRect, cut_pixels};
-ghost use Rattle.shared_painter.specs.Cuts.{cut_rect};
+ghost use Rattle.picture_cuts.specs.Cuts.{cut_rect};
 
-use crate::cuts::cut;
 use display_lock::PaintTurn;
+use picture_cuts::cut;
 use qws_base::{Ink, Picture, Point, Rect, Size};
 use sw_cursor::{Cover, put_clear, put_covered};
 

@@ -5,14 +5,16 @@ use Rattle.qws_base.specs.Sheets.{Sheet}
 use Rattle.qws_base.specs.declared.points.Rect.{Rect}
 use Rattle.turn_logs.specs.Tables.{IsOnScreen}
 use Rattle.display_lock.specs.Turns.{client_in}
-use Rattle.shared_painter.specs.Cuts.{cut_rect}
+use Rattle.picture_cuts.specs.Cuts.{cut_rect}
+use Rattle.picture_cuts.proofs.CutPoints.{on_largest}
+use Rattle.picture_cuts.proofs.CutPixels.{no_part}
 use Rattle.shared_painter.specs.Painted.{PaintsPixels, OwnsRect}
-use Rattle.shared_painter.proofs.Cutting.{on_largest, part_on_screen}
-use Rattle.shared_painter.proofs.Painting.{none_painted, no_part, part_owned}
+use Rattle.shared_painter.proofs.Cutting.{within_screen, part_on_screen}
+use Rattle.shared_painter.proofs.Painting.{none_painted, part_owned}
 use Rattle.shared_painter.proofs.rows.paint_part.Goals as goal
 
 pub cut-part-requires : goal.cut-part-requires
-cut-part-requires g c = on_largest c.args.size c.args.rect c.w-width.ensures.is_screen c.requires.on_screen
+cut-part-requires g c = on_largest c.args.size c.args.rect c.w-width.ensures.is_screen (within_screen c.args.size c.args.rect c.requires.on_screen)
 
 pub returns-then-part-eq0-clause-log : goal.returns-then-part-eq0-clause-log
 returns-then-part-eq0-clause-log g c =

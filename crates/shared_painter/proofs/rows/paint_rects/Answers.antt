@@ -7,7 +7,7 @@ use Rattle.fb_words.specs.declared.known.Client.{Client}
 use Rattle.fb_words.proofs.Going.{both_done}
 use Rattle.display_lock.specs.Turns.{client_in}
 use Rattle.qws_base.specs.RectPixels.{rect_pixels}
-use Rattle.shared_painter.specs.Cuts.{cut_rect}
+use Rattle.picture_cuts.specs.Cuts.{cut_rect}
 use Rattle.shared_painter.specs.Painted.{PaintsPixels, cut_pixels}
 use Rattle.qws_base.proofs.PixelRows.{counted_both}
 use Rattle.shared_painter.proofs.Painting.{both_painted, parts_more}

@@ -1,7 +1,7 @@
 //! The part of a rectangle that a picture reaches.
 ghost use Rattle.std.specs.Prelude.{◌≡◌, ◌≤◌, pos, ◌+ℤ◌, ◌≤ℤ◌};
 ghost use Rattle.qws_base.specs.RectPixels.{IsWithin};
-ghost use Rattle.shared_painter.specs.Cuts.{later, sooner, shared_span, cut_rect, largest};
+ghost use Rattle.picture_cuts.specs.Cuts.{later, sooner, shared_span, cut_rect, largest};
 
 use qws_base::{Point, Rect};
 
@@ -38,9 +38,12 @@ fn shared_span(start: i32, len: u32, origin: i32, reach: i32, count: u32) -> (i3
     }
 }
 
-// The part of a rectangle on the screen that lies in the reach of a picture at an origin; without width or height if there is none.
+/// The part of a rectangle that a picture reaches, for a window with that origin: the points of `rect` that are also points of
+/// `reach` moved by `origin`, as a rectangle again. `rect` is on the largest screen, so in columns 0 to 639 and rows 0 to 479, and
+/// may be empty; `reach` is in points local to the window. Where the two share no column the answer has no width, and where they
+/// share no row no height.
 #[inline(always)]
-pub(crate) fn cut(rect: Rect, origin: Point, reach: Rect) -> Rect
+pub fn cut(rect: Rect, origin: Point, reach: Rect) -> Rect
     requires { IsWithin largest rect }
     ensures { result ≡ cut_rect origin reach rect }
 {

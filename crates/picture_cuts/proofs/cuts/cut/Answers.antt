@@ -1,8 +1,8 @@
 use Rattle.std.proofs.Common.{◌≡◌, ℕ, arith, ℤ, ap, ◌∙◌, to_z, of_z, w32, ◌+ℤ◌}
 use Rattle.std.proofs.lemmas.Int.{ints}
 use Rattle.qws_base.specs.declared.points.Rect.{Rect}
-use Rattle.shared_painter.specs.Cuts.{shared_span}
-use Rattle.shared_painter.proofs.cuts.cut.Goals as goal
+use Rattle.picture_cuts.specs.Cuts.{shared_span}
+use Rattle.picture_cuts.proofs.cuts.cut.Goals as goal
 
 pub returns : goal.returns
 returns c =

@@ -1,6 +1,11 @@
 -- The part of a rectangle that a picture reaches.
-use Rattle.std.specs.Prelude.{ℕ, ℤ, pos, ◌+ℤ◌, ◌-ℤ◌, int_le, int_lt, nat_abs, if◌then◌else◌}
+use Rattle.std.specs.Prelude.{◌≡◌, ℕ, ℤ, pos, ◌+ℤ◌, ◌-ℤ◌, int_le, int_lt, nat_abs, ◌&&◌, if◌then◌else◌}
+use Rattle.std.specs.List.{filter}
 use Rattle.qws_base.specs.Sides.{Sides}
+use Rattle.qws_base.specs.Points.{holds, shifted}
+use Rattle.qws_base.specs.RectPixels.{IsWithin, rect_pixels}
+use Rattle.qws_base.specs.Scenes.{has_ink}
+use Rattle.qws_base.specs.Sheets.{Sheet}
 use Rattle.qws_base.specs.declared.points.Point.{Point}
 use Rattle.qws_base.specs.declared.points.Rect.{Rect}
 
@@ -30,3 +35,11 @@ cut_rect origin reach r = record {
 -- the sides of the largest screen
 abbrev pub largest : Sides
 largest = record { w = 640; h = 480 }
+
+-- a cut has the points that the rectangle shares with the picture's reach; where the rectangle is on a screen, the cut is, and the
+-- pixels of both on which the picture has ink are the same
+pub record CutLaw : Type 0 where
+  pub points : (origin : Point) (reach r : Rect) (p : Point) → holds (cut_rect origin reach r) p ≡ (holds r p && holds (shifted origin reach) p)
+  pub within : (size : Sides) (origin : Point) (reach r : Rect) → IsWithin size r → IsWithin size (cut_rect origin reach r)
+  pub inked : (size : Sides) (origin : Point) (sheet : Sheet) (r : Rect) → IsWithin size r
+      → filter (has_ink size.w origin sheet) (rect_pixels size.w (cut_rect origin sheet.reach r)) ≡ filter (has_ink size.w origin sheet) (rect_pixels size.w r)

@@ -1,8 +1,9 @@
 use Rattle.std.proofs.Common.{◌≡◌, ℕ, ◌<◌, ◌^◌, arith, ℤ, pos, nat_abs, ◌+ℤ◌, ◌-ℤ◌, ◌≤ℤ◌, ◌<ℤ◌, int_lt, to_z, of_z, w32, w64, ap, ◌∙◌, sym, subst}
 use Rattle.std.specs.Prelude.{FitsSigned}
 use Rattle.std.proofs.lemmas.Int.{to_z-of_z}
-use Rattle.shared_painter.proofs.Cutting.{span_some, span_none, not_lt_told, in_64, numbers, reached}
-use Rattle.shared_painter.proofs.cuts.shared_span.Goals as goal
+use Rattle.qws_base.proofs.Integers.{not_lt_told}
+use Rattle.picture_cuts.proofs.Cutting.{span_some, span_none, in_64, numbers, reached}
+use Rattle.picture_cuts.proofs.cuts.shared_span.Goals as goal
 
 pub overflow_cast-result : goal.overflow_cast-result
 overflow_cast-result c =
@@ -48,6 +49,6 @@ returns-else-low-high c =
     let n = numbers c.args.start c.args.origin c.args.reach c.args.len c.args.count _ _ _ _ _ _ c.later-low.result c.sooner-high.result c.ranges.origin c.ranges.reach c.ranges.start (omega arith) (omega arith)
     c.from.ensures c.from-2.ensures c.from-3.ensures c.from-4.ensures c.from-5.ensures c.from-6.ensures (record { sfits = c.later-low.type_inv }) (record { sfits = c.sooner-high.type_inv })
     c.later-low.ensures.value c.later-low.ensures.low c.sooner-high.ensures.value c.sooner-high.ensures.high in
-    let none : c.later-low.result <ℤ c.sooner-high.result → ⊥ = not_lt_told c.later-low.result c.sooner-high.result (sym (ap (λ x. int_lt x (in_64 c.sooner-high.result)) n.low_same ∙ ap (int_lt c.later-low.result) n.high_same) ∙ c.if-low-high.false) in
+    let none : c.sooner-high.result ≤ℤ c.later-low.result = not_lt_told c.later-low.result c.sooner-high.result (sym (ap (λ x. int_lt x (in_64 c.sooner-high.result)) n.low_same ∙ ap (int_lt c.later-low.result) n.high_same) ∙ c.if-low-high.false) in
     ap (λ x. let s : ℤ × ℕ = (x, 0) in s) (to_z-of_z w32 c.args.start c.ranges.start)
     ∙ span_none c.args.start c.args.len (c.args.origin +ℤ c.args.reach) c.args.count c.later-low.result c.sooner-high.result n.is_low n.is_high none
