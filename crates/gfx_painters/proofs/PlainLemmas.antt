@@ -1,21 +1,23 @@
 -- Pixels that take their inks one after another, and the pixels of rectangles.
-use Rattle.std.proofs.Common.{◌≡◌, ◌≢◌, ℕ, zero, suc, ◌+◌, ◌<◌, ◌≤◌, Bool, true, false, cond, if◌then◌else◌, List, [], ◌∷◌, ◌++◌, length, take, drop, get_or, set, append-nil, refl, sym, ap, ◌∙◌, subst, arith, pos, ◌<ℤ◌, ◌≤ℤ◌, ◌+ℤ◌, ⊎_elim}
-use Rattle.std.specs.Prelude.{AllPairs, All, slice_index}
-use Rattle.std.specs.List.{filter, flat_map, range_with_len}
+use Rattle.std.proofs.Common.{◌≡◌, ◌≢◌, ℕ, zero, suc, ◌+◌, ◌<◌, ◌≤◌, Bool, true, false, not, cond, if◌then◌else◌, List, [], ◌∷◌, ◌++◌, length, take, drop, get_or, set, append-nil, refl, sym, ap, ◌∙◌, subst, arith, ◌<ℤ◌, ◌≤ℤ◌, ⊎_elim}
+use Rattle.std.specs.Prelude.{All, slice_index}
+use Rattle.std.specs.List.{filter, range_with_len}
 use mathlib.Core.Option.{some, some-injective, some-ne-none}
 use lib.ListN.{get_elem?}
 use Rattle.std.proofs.lemmas.Bool.{cases_eq, cases_lt, and_parts, false≢true}
 use Rattle.std.proofs.lemmas.Int.{ints}
 use Rattle.std.proofs.lemmas.Grind.{flat_map-append}
-use Rattle.std.proofs.lemmas.List.{get_or-set_other, get_or-set_same, length-set, take_more, take-append-drop}
+use Rattle.std.proofs.lemmas.List.{get_or-set_other, get_or-set_same, set-get_or, length-set, take_more, take-append-drop}
 use Rattle.std.proofs.lemmas.List.FromFn.{fill_by_all, length-range_with_len}
 use Rattle.qws_base.specs.Sides.{Sides}
-use Rattle.qws_base.specs.Inks.{ink_after}
-use Rattle.qws_base.specs.Points.{holds, spans, any_holds, pixels, pixel_count, point_of}
-use Rattle.qws_base.specs.Regions.{HasPixels, Precedes, IsCanonical, right, bottom}
+use Rattle.qws_base.specs.Inks.{ink_after, is_skip}
+use Rattle.qws_base.specs.Points.{holds, spans, pixels, pixel_count, point_of}
+use Rattle.qws_base.specs.Regions.{Precedes, IsCanonical, right, bottom}
 use Rattle.qws_base.specs.Sheets.{Sheet}
 use Rattle.qws_base.specs.Scenes.{Setting, ink_on, has_ink}
-use Rattle.qws_base.specs.RectPixels.{rect_pixels, rects_pixels, IsWithin, AreDisjoint, RectPixelsLaw}
+use Rattle.qws_base.specs.RectPixels.{rect_pixels, rects_pixels, IsWithin, AreDisjoint}
+use Rattle.qws_base.specs.declared.inks.Ink.{Ink}
+use Rattle.qws_base.specs.declared.inks.Ink.TheVariants.{Skip, Copy, Xor, And, Or, Blend}
 use Rattle.qws_base.specs.declared.points.Point.{Point}
 use Rattle.qws_base.specs.declared.points.Rect.{Rect}
 use Rattle.qws_base.proofs.CountLemmas.{counted}
@@ -23,7 +25,9 @@ use Rattle.qws_base.proofs.JoinedLemmas.{place_below}
 use Rattle.qws_base.proofs.PixelRows.{filter_both}
 use Rattle.qws_base.proofs.RectPixelLemmas.{rect_pixels_law}
 use Rattle.qws_base.proofs.Integers.{spans_low, spans_high}
-use Rattle.gfx_painters.specs.Plain.{laid, has_pixel, region_painted, region_inked}
+use Rattle.picture_cuts.specs.Cuts.{cut_rect}
+use Rattle.picture_cuts.proofs.CutPixels.{inked_pixels}
+use Rattle.gfx_painters.specs.Plain.{laid, has_pixel, region_painted}
 
 -- ---- pixels laid one after another
 
@@ -60,6 +64,41 @@ module _ (setting : Setting) (origin : Point) (sheet : Sheet) where
       let apart : p ≢ q = λ same. (let z = once zero (ap some (sym same)) in omega arith) in
       laid_at ps (set scene q v) k p (omega (arith, length-set scene q v)) at (λ j e. let z = once (suc j) e in omega arith)
       ∙ ap (inked_at p) (get_or-set_other scene q p v 0 apart)
+
+-- laying Skip changes nothing, so that the pixels with ink are all that count
+pub laid_inked : (setting : Setting) (origin : Point) (sheet : Sheet) (ps scene : List ℕ) → laid setting origin sheet ps scene ≡ laid setting origin sheet (filter (has_ink setting.size.w origin sheet) ps) scene
+laid_inked setting origin sheet [] scene = refl
+laid_inked setting origin sheet (p ∷ ps) scene = go (is_skip (ink_on setting.size.w origin sheet p)) refl (laid_inked setting origin sheet ps)
+  where
+    passed : List ℕ
+    passed = filter (has_ink setting.size.w origin sheet) ps
+
+    after : Ink → List ℕ
+    after ink = set scene p (ink_after setting.depth ink (slice_index scene p))
+
+    none_after : (ink : Ink) → is_skip ink ≡ true → after ink ≡ scene
+    none_after Skip e = set-get_or scene p 0
+    none_after (Copy c) e = absurd (false≢true e)
+    none_after (Xor c) e = absurd (false≢true e)
+    none_after (And c) e = absurd (false≢true e)
+    none_after (Or c) e = absurd (false≢true e)
+    none_after (Blend c a) e = absurd (false≢true e)
+
+    go : (b : Bool) → is_skip (ink_on setting.size.w origin sheet p) ≡ b → ((shown : List ℕ) → laid setting origin sheet ps shown ≡ laid setting origin sheet passed shown)
+        → laid setting origin sheet ps (after (ink_on setting.size.w origin sheet p)) ≡ laid setting origin sheet (if not b then p ∷ passed else passed) scene
+    go true is rest = ap (laid setting origin sheet ps) (none_after (ink_on setting.size.w origin sheet p) is) ∙ rest scene
+    go false is rest = rest (after (ink_on setting.size.w origin sheet p))
+
+-- laying the cut of a rectangle is laying the rectangle
+pub laid_cut : (setting : Setting) (size : Sides) (origin : Point) (sheet : Sheet) (r : Rect) (scene : List ℕ) → size ≡ setting.size → IsWithin size r
+    → laid setting origin sheet (rect_pixels size.w (cut_rect origin sheet.reach r)) scene ≡ laid setting origin sheet (rect_pixels size.w r) scene
+laid_cut setting size origin sheet r scene same = subst (λ (s : Sides). IsWithin s r → laid setting origin sheet (rect_pixels s.w (cut_rect origin sheet.reach r)) scene ≡ laid setting origin sheet (rect_pixels s.w r) scene) (sym same) here
+  where
+    here : IsWithin setting.size r → laid setting origin sheet (rect_pixels setting.size.w (cut_rect origin sheet.reach r)) scene ≡ laid setting origin sheet (rect_pixels setting.size.w r) scene
+    here on =
+        laid_inked setting origin sheet (rect_pixels setting.size.w (cut_rect origin sheet.reach r)) scene
+        ∙ ap (λ ps. laid setting origin sheet ps scene) (inked_pixels setting.size origin sheet r on)
+        ∙ sym (laid_inked setting origin sheet (rect_pixels setting.size.w r) scene)
 
 -- ---- the pixels of disjoint rectangles
 

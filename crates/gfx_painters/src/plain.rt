@@ -11,6 +11,7 @@ ghost use Rattle.gfx_painters.specs.Plain.{laid, region_painted, region_inked};
 
 use crate::paints::Paint;
 use band_regions::Region;
+use picture_cuts::cut;
 use pixel_model::Canvas;
 use qws_base::{Ink, Picture, Point, Rect, RowBuf, Size};
 
@@ -88,6 +89,35 @@ fn paint_rect<P: Picture>(
     count
 }
 
+// Paints the pixels of a rectangle on the screen, and counts those with ink. Only the part that the picture reaches is visited, by
+// rows: all pixels around it have Skip.
+fn paint_part<P: Picture>(
+    canvas: &mut Canvas,
+    picture: &P,
+    origin: Point,
+    reach: Rect,
+    rect: Rect,
+    size: Size,
+    inks: &mut [Ink],
+) -> u64
+    requires origin { IsPlaced origin }
+    requires reach { reach ≡ (P.sheet picture.now).reach }
+    requires size { size ≡ canvas.old.setting.size }
+    requires on_screen { IsWithin size rect }
+    requires room { length inks.old ≡ 640 }
+    ensures canvas { canvas.new ≡ record canvas.old { scene = laid canvas.old.setting origin (P.sheet picture.now) (rect_pixels size.w rect) canvas.old.scene } }
+    ensures count { result ≡ length (filter (has_ink size.w origin (P.sheet picture.now)) (rect_pixels size.w rect)) }
+    ensures few { result ≤ 307200 }
+    ensures room { length inks.new ≡ 640 }
+{
+    let _width = size.w();
+    let part = cut(rect, origin, reach);
+    if part.w == 0 || part.h == 0 {
+        return 0;
+    }
+    paint_rect(canvas, picture, origin, part, size, inks)
+}
+
 // Paints the pixels of rectangles on the screen, one rectangle after another, and counts those with ink.
 fn paint_rects<P: Picture>(
     canvas: &mut Canvas,
@@ -98,7 +128,6 @@ fn paint_rects<P: Picture>(
 ) -> u64
     requires origin { IsPlaced origin }
     requires on_screen { All (IsWithin canvas.old.setting.size) rects.now }
-    requires some_pixels { All HasPixels rects.now }
     requires disjoint { AreDisjoint canvas.old.setting.size rects.now }
     requires room { length inks.old ≡ 640 }
     ensures canvas { canvas.new ≡ record canvas.old { scene = laid canvas.old.setting origin (P.sheet picture.now) (rects_pixels canvas.old.setting.size.w rects.now) canvas.old.scene } }
@@ -106,9 +135,10 @@ fn paint_rects<P: Picture>(
 {
     let size = canvas.size();
     let _width = size.w();
+    let reach = picture.reach();
     let mut count = 0;
     for rect in rects {
-        count += paint_rect(canvas, picture, origin, *rect, size, inks);
+        count += paint_part(canvas, picture, origin, reach, *rect, size, inks);
     }
     count
 }

@@ -1,4 +1,4 @@
-use Rattle.std.proofs.Common.{◌≡◌, ◌∙◌, sym, ap, subst, List, length}
+use Rattle.std.proofs.Common.{◌∙◌, sym, ap, subst, List, length}
 use Rattle.std.specs.List.{filter}
 use Rattle.qws_base.specs.RectPixels.{AreDisjoint, rects_pixels}
 use Rattle.qws_base.specs.Scenes.{has_ink}

@@ -1,4 +1,4 @@
-use Rattle.std.proofs.Common.{◌≡◌, ℕ, ◌+◌, ◌-◌, ◌*◌, ◌/◌, ◌%◌, ◌<◌, ◌≤◌, List, length, length-append, length-drop, take, drop, true, sym, refl, ap, ◌∙◌, subst, arith, ℤ, pos, ◌+ℤ◌, nat_abs, to_z, of_z, w32}
+use Rattle.std.proofs.Common.{◌≡◌, ℕ, ◌+◌, ◌-◌, ◌*◌, ◌/◌, ◌%◌, ◌≤◌, List, length, length-append, length-drop, take, drop, sym, ap, ◌∙◌, subst, arith, ℤ, pos, ◌+ℤ◌, nat_abs, to_z, of_z, w32}
 use Rattle.std.specs.List.{filter, range_with_len}
 use Rattle.std.proofs.lemmas.Int.{ints}
 use Rattle.std.proofs.lemmas.Nat.{mul-add-lt, mul-le}

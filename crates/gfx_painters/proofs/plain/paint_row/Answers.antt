@@ -1,9 +1,9 @@
-use Rattle.std.proofs.Common.{◌≡◌, ℕ, ◌+◌, ◌<◌, ◌/◌, ◌%◌, [], ◌∷◌, ◌++◌, List, length, get_or, set, sym, refl, ap, ◌∙◌, subst, arith, ℤ, pos, ◌-ℤ◌, to_z, of_z, w32}
+use Rattle.std.proofs.Common.{◌≡◌, ℕ, ◌+◌, ◌<◌, ◌/◌, ◌%◌, [], ◌∷◌, List, length, get_or, set, sym, refl, ap, ◌∙◌, subst, arith, pos, ◌-ℤ◌, to_z, of_z, w32}
 use Rattle.std.specs.Prelude.{slice_index}
 use Rattle.std.specs.List.{filter, range_with_len}
 use Rattle.std.proofs.lemmas.Int.{ints}
 use Rattle.qws_base.specs.Inks.{ink_after}
-use Rattle.qws_base.specs.Points.{point_of, pixel_count}
+use Rattle.qws_base.specs.Points.{pixel_count}
 use Rattle.qws_base.specs.Scenes.{ink_on, has_ink}
 use Rattle.qws_base.specs.Sheets.{Sheet, row_of}
 use Rattle.qws_base.specs.declared.points.Point.{Point}
