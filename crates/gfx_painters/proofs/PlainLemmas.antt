@@ -9,6 +9,7 @@ use Rattle.std.proofs.lemmas.Int.{ints}
 use Rattle.std.proofs.lemmas.Grind.{flat_map-append}
 use Rattle.std.proofs.lemmas.List.{get_or-set_other, get_or-set_same, set-get_or, length-set, take_more, take-append-drop}
 use Rattle.std.proofs.lemmas.List.FromFn.{fill_by_all, length-range_with_len}
+use Rattle.qws_base.proofs.ListLemmas.{filter_le, item_at}
 use Rattle.qws_base.specs.Sides.{Sides}
 use Rattle.qws_base.specs.Inks.{ink_after, is_skip}
 use Rattle.qws_base.specs.Points.{holds, spans, pixels, pixel_count, point_of}
@@ -114,19 +115,6 @@ precedes_apart r s p before h k =
     (λ (same : (r.y ≡ s.y) × (r.h ≡ s.h) × (right r <ℤ s.x)). let gap = same.2 in omega (arith, ints, rx, sx, gap))
     (λ (over : bottom r ≤ℤ s.y). omega (arith, ints, ry, sy, over))
     before
-
-filter_le : (test : ℕ → Bool) (ks : List ℕ) → length (filter test ks) ≤ length ks
-filter_le test [] = omega arith
-filter_le test (k ∷ ks) = by (test k) (filter_le test ks)
-  where
-    by : (b : Bool) → length (filter test ks) ≤ length ks → length (cond b (k ∷ filter test ks) (filter test ks)) ≤ suc (length ks)
-    by true h = omega arith
-    by false h = omega arith
-
-item_at : {A : Type 0} (l : List A) (k : ℕ) (a d : A) → get_elem? l k ≡ some a → get_or l k d ≡ a
-item_at [] k a d at = absurd (some-ne-none a (sym at))
-item_at (x ∷ l) zero a d at = some-injective x a at
-item_at (x ∷ l) (suc k) a d at = item_at l k a d at
 
 -- the rectangles of a canonical list share no point
 pub canonical_disjoint : (size : Sides) (rects : List Rect) → IsCanonical rects → AreDisjoint size rects

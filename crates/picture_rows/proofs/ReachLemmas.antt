@@ -1,5 +1,5 @@
 -- A rectangle between outermost points has the points within its bounds.
-use Rattle.std.proofs.Common.{◌≡◌, ◌+◌, ℤ, ◌-ℤ◌, ◌≤ℤ◌, ◌<ℤ◌, nat_abs, true, arith}
+use Rattle.std.proofs.Common.{◌≡◌, ◌+◌, ◌-ℤ◌, ◌≤ℤ◌, ◌<ℤ◌, nat_abs, true, arith}
 use Rattle.std.proofs.lemmas.Int.{ints}
 use Rattle.std.proofs.lemmas.Bool.{and_from}
 use Rattle.qws_base.specs.declared.points.Point.{Point}

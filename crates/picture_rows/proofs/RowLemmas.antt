@@ -1,9 +1,8 @@
 -- Inks laid on places, and the row of a sheet.
 use Rattle.std.proofs.Common.{ℕ, ◌≡◌, ◌+◌, ◌-◌, ◌<◌, ◌≤◌, ℤ, pos, ◌+ℤ◌, Bool, true, false, cond, ◌⊎◌, inl, inr, refl, sym, ap, ◌∙◌, arith, List, ◌++◌, length, map, take, drop, get_or, length-append, length-take, length-drop}
-use Rattle.std.proofs.Math.ListN.{replicate}
 use Rattle.std.proofs.lemmas.Bool.{cases_lt}
 use Rattle.std.proofs.lemmas.Int.{ints}
-use Rattle.std.proofs.lemmas.List.{length-replicate, get_or-replicate, get_or_append_left, get_or-append_right, get_or-take, get_or-drop}
+use Rattle.std.proofs.lemmas.List.{get_or_append_left, get_or-append_right, get_or-take, get_or-drop}
 use Rattle.std.proofs.lemmas.List.FromFn.{fill_by_all, length-map-range_with_len, get_or-map-range_with_len}
 use Rattle.std.specs.List.{range_with_len}
 use borrow.Rule.Slice.PartMut.{put_mid}
@@ -65,12 +64,12 @@ pub inked_as : (n : ℕ) (f g : ℕ → Ink) (out : List Ink) → ((k : ℕ) →
 inked_as n f g out h i = record { same_length = i.same_length; at = λ k below. i.at k below ∙ h k below }
 
 -- one ink in a part
-pub laid : (from to : ℕ) (ink : Ink) (was made : List Ink) → from ≤ to → to ≤ length was → made ≡ replicate (length (take (to - from) (drop from was))) ink
+pub laid : (from to : ℕ) (ink : Ink) (was made : List Ink) → from ≤ to → to ≤ length was → IsInked (length (take (to - from) (drop from was))) (λ k. ink) made
     → IsInked (length was) (λ k. cond (in_run from to k) ink (get_or was k Skip)) (put_mid from (to - from) was made)
 laid from to ink was made h g e =
     let n : ℕ = length (take (to - from) (drop from was)) in
     let part : n ≡ to - from = length_part from to was h g in
-    let len : length made ≡ to - from = ap length e ∙ length-replicate n ink ∙ part in
+    let len : length made ≡ to - from = e.same_length ∙ part in
     record {
       same_length = length_put from to was made h g len;
       at = λ k below. put_at from to k was made Skip h g len ∙ by k (cases_lt k from) (cases_lt k to);
@@ -80,8 +79,7 @@ laid from to ink was made h g e =
     by k (inl a) b = let t = run_before from to k a in rw (t) refl
     by k (inr a) (inr b) = let t = run_after from to k b in rw (t) refl
     by k (inr a) (inl b) =
-        ap (λ i. cond (in_run from to k) i (get_or was k Skip))
-        (ap (λ l. get_or l (k - from) Skip) e ∙ get_or-replicate (length (take (to - from) (drop from was))) (k - from) ink Skip (omega (arith, length_part from to was h g)))
+        ap (λ i. cond (in_run from to k) i (get_or was k Skip)) (e.at (k - from) (omega (arith, length_part from to was h g)))
 
 -- Skip up to a part, and from its end on
 pub skipped : (n from to : ℕ) (was first last : List Ink) → length was ≡ n → from ≤ to → to ≤ n → IsInked n (λ k. cond (in_run 0 from k) Skip (get_or was k Skip)) first
