@@ -1,15 +1,13 @@
--- A row with one ink, in which no cell of the cursor lies.
-use Rattle.std.proofs.Common.{◌≡◌, ℕ, ◌+◌, ◌-◌, ◌/◌, ◌%◌, ◌<◌, ◌≤◌, Bool, true, false, ◌&&◌, not, All, if◌then◌else◌, List, length, get_or, sym, refl, ap, ◌∙◌, subst, arith, ℤ, pos, ◌-ℤ◌, nat_abs, Option, Some, None}
-use Rattle.std.proofs.lemmas.List.Elements.{All-get_or}
+-- A row of a sheet, and one in which no cell of the cursor lies.
+use Rattle.std.proofs.Common.{◌≡◌, ℕ, ◌+◌, ◌-◌, ◌/◌, ◌%◌, ◌<◌, ◌≤◌, Bool, true, false, ◌&&◌, not, if◌then◌else◌, List, get_or, sym, refl, ap, ◌∙◌, arith, ℤ, pos, ◌-ℤ◌, nat_abs, Some, None}
 use Rattle.qws_base.specs.Points.{spans, point_of}
-use Rattle.qws_base.specs.Scenes.{ink_on}
 use Rattle.qws_base.specs.Sheets.{Sheet, row_of}
 use Rattle.qws_base.specs.Shown.{cell_on}
 use Rattle.qws_base.specs.declared.points.Point.{Point}
 use Rattle.qws_base.specs.declared.inks.Ink.{Ink}
 use Rattle.qws_base.specs.declared.windows.Cursor.{Cursor}
-use Rattle.qws_base.proofs.PixelRows.{next_in_row, ink_in_row, row_length}
-use Rattle.shared_painter.specs.Painted.{HasInk}
+use Rattle.qws_base.proofs.PixelRows.{next_in_row, ink_in_row}
+use Rattle.shared_painter.specs.Painted.{HasInks}
 
 -- a row from a pixel on, by the pixel's point
 pub row_here : (w f n : ℕ) (at origin : Point) (sheet : Sheet) (y x : ℤ) (inks : List Ink) → at ≡ point_of w f → y ≡ at.y -ℤ origin.y → x ≡ at.x -ℤ origin.x → inks ≡ row_of sheet y x n
@@ -17,14 +15,9 @@ pub row_here : (w f n : ℕ) (at origin : Point) (sheet : Sheet) (y x : ℤ) (in
 row_here w f n at origin sheet y x inks is down across row =
     row ∙ ap (λ b. row_of sheet b x n) (down ∙ ap (λ (p : Point). p.y -ℤ origin.y) is) ∙ ap (λ a. row_of sheet (pos (f / w) -ℤ origin.y) a n) (across ∙ ap (λ (p : Point). p.x -ℤ origin.x) is)
 
--- the pixels of a row whose inks are one have that ink
-pub one_ink : (w f n : ℕ) (origin : Point) (sheet : Sheet) (ink : Ink) (inks : List Ink) → inks ≡ row_of sheet (pos (f / w) -ℤ origin.y) (pos (f % w) -ℤ origin.x) n → f % w + n ≤ w
-    → All (λ other. other ≡ ink) inks → HasInk w origin sheet ink f n
-one_ink w f n origin sheet ink inks is across all k low high =
-    let j : ℕ = k - f in
-    let at : f + j ≡ k = omega arith in
-    let long = row_length sheet (pos (f / w) -ℤ origin.y) (pos (f % w) -ℤ origin.x) n inks is in
-    sym (All-get_or (λ other. other ≡ ink) inks j ink (omega arith) all) ∙ ap (λ l. get_or l j ink) is ∙ ink_in_row w f j n origin sheet ink (omega arith) (omega arith) ∙ ap (ink_on w origin sheet) at
+-- a row has the sheet's inks on its pixels
+pub row_inks : (w f n : ℕ) (origin : Point) (sheet : Sheet) (inks : List Ink) → inks ≡ row_of sheet (pos (f / w) -ℤ origin.y) (pos (f % w) -ℤ origin.x) n → f % w + n ≤ w → HasInks w origin sheet inks f n
+row_inks w f n origin sheet inks is across j d low = ap (λ l. get_or l j d) is ∙ ink_in_row w f j n origin sheet d low (omega arith)
 
 missed : (shown across down : Bool) → true ≡ not (shown && down) → (shown && (across && down)) ≡ false
 missed true true true e = absurd (let z : true ≡ false = e in cc)

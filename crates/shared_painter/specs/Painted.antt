@@ -1,5 +1,5 @@
 -- What painting pixels adds to the log of a turn.
-use Rattle.std.specs.Prelude.{◌≡◌, ℕ, ◌+◌, ◌<◌, ◌≤◌, true, List, [], ◌∷◌, ◌++◌, map, length}
+use Rattle.std.specs.Prelude.{◌≡◌, ℕ, ◌+◌, ◌<◌, ◌≤◌, true, List, [], ◌∷◌, ◌++◌, map, length, slice_index_or, None}
 use Rattle.std.specs.List.{filter, range_with_len}
 use Rattle.qws_base.specs.Points.{holds, point_of, pixel_count}
 use Rattle.qws_base.specs.RectPixels.{rects_pixels}
@@ -17,7 +17,9 @@ use Rattle.turn_logs.specs.Carries.{shown_cell}
 use Rattle.fb_words.specs.Clips.{looked_in, log_in}
 use Rattle.fb_words.specs.Looks.{LookedIn}
 use Rattle.fb_words.specs.Rights.{Owns}
-use Rattle.sw_cursor.specs.Covers.{put_items}
+use Rattle.qws_base.specs.Shown.{cell_on}
+use Rattle.sw_cursor.specs.Covers.{put_items, bare_cursor}
+use Rattle.sw_cursor.specs.declared.covers.Cover.{Cover}
 use Rattle.picture_cuts.specs.Cuts.{cut_rect}
 
 -- f of each pixel and what was found there, one after the other
@@ -37,15 +39,19 @@ pub record PaintsPixels (origin : Point) (sheet : Sheet) (ps : List ℕ) (p q : 
   pub log : (words : ℕ → ℕ) → LookedIn (looked_in q.mode) words
       → log_in q.mode ≡ log_in p.mode ++ zipped (items_at p.setting (cursor_from words) origin sheet) ps values
 
--- the sheet has the ink on so many pixels from the first on
-abbrev pub HasInk : ℕ → Point → Sheet → Ink → ℕ → ℕ → Type 0
-HasInk width origin sheet ink first n = (k : ℕ) → first ≤ k → k < first + n → ink ≡ ink_on width origin sheet k
+-- the sheet has the first of the inks, so many, on the pixels from the first on
+abbrev pub HasInks : ℕ → Point → Sheet → List Ink → ℕ → ℕ → Type 0
+HasInks width origin sheet inks first n = (j : ℕ) (d : Ink) → j < n → slice_index_or inks j d ≡ ink_on width origin sheet (first + j)
 
--- Of each sheet that has the ink on so many pixels from the first on, the log has grown by the items on those pixels, and the
--- count is that of those with ink.
-pub record PaintsEvenly (ink : Ink) (first n : ℕ) (p q : Client) (count : ℕ) : Type 0 where
-  pub log : (origin : Point) (sheet : Sheet) → HasInk p.setting.size.w origin sheet ink first n → PaintsPixels origin sheet (range_with_len first n) p q
-  pub counted : (origin : Point) (sheet : Sheet) → HasInk p.setting.size.w origin sheet ink first n → count ≡ length (filter (has_ink p.setting.size.w origin sheet) (range_with_len first n))
+-- Of each sheet that has the first of the inks, so many, on the pixels from the first on, the log has grown by the items on those
+-- pixels, and the count is that of those with ink.
+pub record PaintsInks (inks : List Ink) (first n : ℕ) (p q : Client) (count : ℕ) : Type 0 where
+  pub log : (origin : Point) (sheet : Sheet) → HasInks p.setting.size.w origin sheet inks first n → PaintsPixels origin sheet (range_with_len first n) p q
+  pub counted : (origin : Point) (sheet : Sheet) → HasInks p.setting.size.w origin sheet inks first n → count ≡ length (filter (has_ink p.setting.size.w origin sheet) (range_with_len first n))
+
+-- the cover has no cell on so many pixels from the first on
+abbrev pub IsClear : Client → Cover → ℕ → ℕ → Type 0
+IsClear p cover first n = (k : ℕ) → first ≤ k → k < first + n → cell_on (bare_cursor cover) (point_of p.setting.size.w k) ≡ None
 
 -- the client owns so many pixels from the first on
 abbrev pub OwnsSpan : Client → ℕ → ℕ → Type 0

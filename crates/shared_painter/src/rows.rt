@@ -1,15 +1,14 @@
 //! Painting a picture row by row.
-ghost use Rattle.std.specs.Prelude.{◌≡◌, ℕ, ◌+◌, ◌*◌, ◌%◌, ◌<◌, ◌≤◌, All, length, if◌then◌else◌, IfSome, None};
+ghost use Rattle.std.specs.Prelude.{◌≡◌, ℕ, ◌+◌, ◌*◌, ◌%◌, ◌<◌, ◌≤◌, All, length, if◌then◌else◌, true, false};
 ghost use Rattle.std.specs.List.{filter, range_with_len};
 ghost use Rattle.qws_base.specs.Inks.{is_skip};
 ghost use Rattle.qws_base.specs.Points.{IsPlaced, IsOnLargest, point_of};
 ghost use Rattle.qws_base.specs.Scenes.{has_ink};
 ghost use Rattle.turn_logs.specs.Tables.{IsOnScreen};
 ghost use Rattle.display_lock.specs.Turns.{IsOpen, SameTurn, client_in};
-ghost use Rattle.qws_base.specs.Shown.{cell_on};
-ghost use Rattle.sw_cursor.specs.Covers.{PaintsOn, IsCover, bare_cursor};
+ghost use Rattle.sw_cursor.specs.Covers.{PaintsOn, IsCover};
 ghost use Rattle.qws_base.specs.RectPixels.{rect_pixels};
-ghost use Rattle.shared_painter.specs.Painted.{PaintsPixels, PaintsEvenly, OwnsSpan, OwnsRect, cut_pixels};
+ghost use Rattle.shared_painter.specs.Painted.{PaintsPixels, PaintsInks, IsClear, OwnsSpan, OwnsRect, cut_pixels};
 ghost use Rattle.picture_cuts.specs.Cuts.{cut_rect};
 
 use display_lock::PaintTurn;
@@ -28,38 +27,85 @@ fn inked(ink: &Ink) -> u64
     }
 }
 
-// The ink that all places have; none where two differ.
+// Whether a place has an ink.
 #[inline(always)]
-fn only_ink(inks: &[Ink]) -> Option<Ink>
-    ensures { IfSome result (λ ink. All (λ other. other ≡ ink) inks.now) }
+fn is_ink(place: &Ink, ink: &Ink) -> bool
+    ensures { result ≡ true → place.now ≡ ink.now }
 {
-    let first = *inks.first()?;
-    if inks.iter().all(|ink| *ink == first) {
-        Some(first)
-    } else {
-        None
-    }
+    *place == *ink
 }
 
-// Paints so many pixels with one ink where no cell of the cursor lies, and counts those with ink.
+// Paints the pixels of a row, on which no cell of the cursor lies, up to the first with another ink than this one, which isn't
+// Skip. How many there are.
 #[inline(always)]
-fn paint_even(turn: &mut PaintTurn, cover: &Cover, first: u32, len: u32, ink: Ink) -> u64
+fn paint_front(turn: &mut PaintTurn, cover: &Cover, first: u32, inks: &[Ink], ink: Ink) -> usize
     requires open { IsOpen turn.old }
     requires cover { IsCover (client_in turn.old) cover.now }
-    requires clear { (k : ℕ) → first ≤ k → k < first + len → cell_on (bare_cursor cover.now) (point_of (client_in turn.old).setting.size.w k) ≡ None }
-    requires pixels { first + len ≤ 307200 }
-    requires owns { OwnsSpan (client_in turn.old) first len }
+    requires clear { IsClear (client_in turn.old) cover.now first (length inks.now) }
+    requires pixels { first + length inks.now ≤ 307200 }
+    requires owns { OwnsSpan (client_in turn.old) first (length inks.now) }
+    requires inked { is_skip ink ≡ false }
     ensures same { SameTurn turn.old turn.new }
     ensures open { IsOpen turn.new }
     ensures goes { PaintsOn (client_in turn.old) (client_in turn.new) }
     ensures cover { IsCover (client_in turn.new) cover.now }
-    ensures log { PaintsEvenly ink first len (client_in turn.old) (client_in turn.new) result }
-    ensures few { result ≤ len }
+    ensures log { PaintsInks inks.now first result (client_in turn.old) (client_in turn.new) result }
+    ensures few { result ≤ length inks.now }
 {
-    let mut count = 0;
-    for j in 0..len {
-        count += inked(&ink);
-        put_clear(turn, cover, first + j, ink);
+    for j in 0..inks.len() {
+        if !is_ink(&inks[j], &ink) {
+            return j;
+        }
+        put_clear(turn, cover, first + j as u32, ink);
+    }
+    inks.len()
+}
+
+// Paints the pixels of a row, on which no cell of the cursor lies, up to the first with another ink than the first one's, where
+// that is a Copy or a Blend; else none. How many there are. The kind of ink is asked once.
+#[inline(always)]
+fn paint_even(turn: &mut PaintTurn, cover: &Cover, first: u32, inks: &[Ink]) -> usize
+    requires open { IsOpen turn.old }
+    requires cover { IsCover (client_in turn.old) cover.now }
+    requires clear { IsClear (client_in turn.old) cover.now first (length inks.now) }
+    requires pixels { first + length inks.now ≤ 307200 }
+    requires owns { OwnsSpan (client_in turn.old) first (length inks.now) }
+    ensures same { SameTurn turn.old turn.new }
+    ensures open { IsOpen turn.new }
+    ensures goes { PaintsOn (client_in turn.old) (client_in turn.new) }
+    ensures cover { IsCover (client_in turn.new) cover.now }
+    ensures log { PaintsInks inks.now first result (client_in turn.old) (client_in turn.new) result }
+    ensures few { result ≤ length inks.now }
+{
+    match inks.first() {
+        Some(Ink::Copy { c }) => paint_front(turn, cover, first, inks, Ink::Copy { c: *c }),
+        Some(Ink::Blend { c, a }) => {
+            paint_front(turn, cover, first, inks, Ink::Blend { c: *c, a: *a })
+        }
+        _ => 0,
+    }
+}
+
+// Paints the pixels of a row on which no cell of the cursor lies, and counts those with ink.
+#[inline(always)]
+fn paint_clear(turn: &mut PaintTurn, cover: &Cover, first: u32, inks: &[Ink]) -> u64
+    requires open { IsOpen turn.old }
+    requires cover { IsCover (client_in turn.old) cover.now }
+    requires clear { IsClear (client_in turn.old) cover.now first (length inks.now) }
+    requires pixels { first + length inks.now ≤ 307200 }
+    requires owns { OwnsSpan (client_in turn.old) first (length inks.now) }
+    ensures same { SameTurn turn.old turn.new }
+    ensures open { IsOpen turn.new }
+    ensures goes { PaintsOn (client_in turn.old) (client_in turn.new) }
+    ensures cover { IsCover (client_in turn.new) cover.now }
+    ensures log { PaintsInks inks.now first (length inks.now) (client_in turn.old) (client_in turn.new) result }
+    ensures few { result ≤ length inks.now }
+{
+    let front = paint_even(turn, cover, first, inks);
+    let mut count = front as u64;
+    for j in front..inks.len() {
+        count += inked(&inks[j]);
+        put_clear(turn, cover, first + j as u32, inks[j]);
     }
     count
 }
@@ -95,9 +141,7 @@ fn paint_row<P: Picture>(
 {
     picture.row(at.y - origin.y, at.x - origin.x, inks);
     if cover.misses(at.y) {
-        if let Some(ink) = only_ink(inks) {
-            return paint_even(turn, cover, first, inks.len() as u32, ink);
-        }
+        return paint_clear(turn, cover, first, inks);
     }
     let mut count = 0;
     for j in 0..inks.len() {

@@ -11,8 +11,8 @@ use Rattle.fb_words.specs.declared.known.Client.{Client}
 use Rattle.fb_words.proofs.Going.{none_done, both_done}
 use Rattle.display_lock.specs.Turns.{client_in}
 use Rattle.sw_cursor.specs.Covers.{bare_cursor}
-use Rattle.shared_painter.specs.Painted.{PaintsPixels, PaintsEvenly, HasInk}
-use Rattle.shared_painter.proofs.Even.{row_here, one_ink, clear_row}
+use Rattle.shared_painter.specs.Painted.{PaintsPixels, PaintsInks, HasInks}
+use Rattle.shared_painter.proofs.Even.{row_here, row_inks, clear_row}
 use Rattle.qws_base.proofs.PixelRows.{range_more, counted_more, few_more, next_in_row, ink_in_row, row_length}
 use Rattle.shared_painter.proofs.Painting.{none_painted, one_painted, both_painted}
 use Rattle.shared_painter.proofs.rows.paint_row.Goals as goal
@@ -33,8 +33,8 @@ loop-j-init g c =
       counted = refl;
     }
 
-pub paint_even-requires-clause-clear : goal.paint_even-requires-clause-clear
-paint_even-requires-clause-clear g c =
+pub paint_clear-requires-clause-clear : goal.paint_clear-requires-clause-clear
+paint_clear-requires-clause-clear g c =
     let sheet : Sheet = g.P.Picture.sheet c.args.picture.now in
     let w : ℕ = (client_in c.args.turn.now).setting.size.w in
     let f : ℕ = c.args.first in
@@ -46,8 +46,8 @@ paint_even-requires-clause-clear g c =
     let here : to_z w32 (of_z w32 c.args.at.y) ≡ c.args.at.y = omega (arith, ints) in
     clear_row w f (length c.row.new.out) (bare_cursor c.args.cover.now) (to_z w32 (of_z w32 c.args.at.y)) (sym c.if-misses.true ∙ c.misses.ensures) (here ∙ ap (λ (p : Point). p.y) c.requires.at) (subst (λ m. f % w + m ≤ w) (sym long) c.requires.width)
 
-pub paint_even-requires-clause-owns : goal.paint_even-requires-clause-owns
-paint_even-requires-clause-owns g c k low high =
+pub paint_clear-requires-clause-owns : goal.paint_clear-requires-clause-owns
+paint_clear-requires-clause-owns g c k low high =
     let sheet : Sheet = g.P.Picture.sheet c.args.picture.now in
     let w : ℕ = (client_in c.args.turn.now).setting.size.w in
     let f : ℕ = c.args.first in
@@ -58,8 +58,8 @@ paint_even-requires-clause-owns g c k low high =
     let long : length c.row.new.out ≡ n = row_length sheet _ _ n c.row.new.out row in
     c.requires.owns k low (omega arith)
 
-pub returns-in-Some-clause-log : goal.returns-in-Some-clause-log
-returns-in-Some-clause-log g c =
+pub returns-then-misses-clause-log : goal.returns-then-misses-clause-log
+returns-then-misses-clause-log g c =
     let sheet : Sheet = g.P.Picture.sheet c.args.picture.now in
     let w : ℕ = (client_in c.args.turn.now).setting.size.w in
     let f : ℕ = c.args.first in
@@ -68,12 +68,12 @@ returns-in-Some-clause-log g c =
     let y : to_z w32 (of_z w32 (to_z w32 (of_z w32 c.args.at.y) -ℤ to_z w32 (of_z w32 c.args.origin.y))) ≡ c.args.at.y -ℤ c.args.origin.y = omega (arith, ints) in
     let row = row_here w f n c.args.at c.args.origin sheet _ _ c.row.new.out c.requires.at y x c.row.ensures in
     let long : length c.row.new.out ≡ n = row_length sheet _ _ n c.row.new.out row in
-    let has : HasInk w c.args.origin sheet c.in-Some.ink f n = one_ink w f n c.args.origin sheet c.in-Some.ink c.row.new.out row c.requires.width c.in-Some.ensures in
-    let evenly : PaintsEvenly c.in-Some.ink f n (client_in c.args.turn.now) (client_in c.paint_even.new.turn) c.paint_even.result = subst (λ m. PaintsEvenly c.in-Some.ink f m (client_in c.args.turn.now) (client_in c.paint_even.new.turn) c.paint_even.result) long c.paint_even.ensures.log in
-    evenly.log c.args.origin sheet has
+    let has : HasInks w c.args.origin sheet c.row.new.out f n = row_inks w f n c.args.origin sheet c.row.new.out row c.requires.width in
+    let inks : PaintsInks c.row.new.out f n (client_in c.args.turn.now) (client_in c.paint_clear.new.turn) c.paint_clear.result = subst (λ m. PaintsInks c.row.new.out f m (client_in c.args.turn.now) (client_in c.paint_clear.new.turn) c.paint_clear.result) long c.paint_clear.ensures.log in
+    inks.log c.args.origin sheet has
 
-pub returns-in-Some-clause-count : goal.returns-in-Some-clause-count
-returns-in-Some-clause-count g c =
+pub returns-then-misses-clause-count : goal.returns-then-misses-clause-count
+returns-then-misses-clause-count g c =
     let sheet : Sheet = g.P.Picture.sheet c.args.picture.now in
     let w : ℕ = (client_in c.args.turn.now).setting.size.w in
     let f : ℕ = c.args.first in
@@ -82,9 +82,9 @@ returns-in-Some-clause-count g c =
     let y : to_z w32 (of_z w32 (to_z w32 (of_z w32 c.args.at.y) -ℤ to_z w32 (of_z w32 c.args.origin.y))) ≡ c.args.at.y -ℤ c.args.origin.y = omega (arith, ints) in
     let row = row_here w f n c.args.at c.args.origin sheet _ _ c.row.new.out c.requires.at y x c.row.ensures in
     let long : length c.row.new.out ≡ n = row_length sheet _ _ n c.row.new.out row in
-    let has : HasInk w c.args.origin sheet c.in-Some.ink f n = one_ink w f n c.args.origin sheet c.in-Some.ink c.row.new.out row c.requires.width c.in-Some.ensures in
-    let evenly : PaintsEvenly c.in-Some.ink f n (client_in c.args.turn.now) (client_in c.paint_even.new.turn) c.paint_even.result = subst (λ m. PaintsEvenly c.in-Some.ink f m (client_in c.args.turn.now) (client_in c.paint_even.new.turn) c.paint_even.result) long c.paint_even.ensures.log in
-    evenly.counted c.args.origin sheet has
+    let has : HasInks w c.args.origin sheet c.row.new.out f n = row_inks w f n c.args.origin sheet c.row.new.out row c.requires.width in
+    let inks : PaintsInks c.row.new.out f n (client_in c.args.turn.now) (client_in c.paint_clear.new.turn) c.paint_clear.result = subst (λ m. PaintsInks c.row.new.out f m (client_in c.args.turn.now) (client_in c.paint_clear.new.turn) c.paint_clear.result) long c.paint_clear.ensures.log in
+    inks.counted c.args.origin sheet has
 
 pub put_covered-requires-clause-at : goal.put_covered-requires-clause-at
 put_covered-requires-clause-at g c =

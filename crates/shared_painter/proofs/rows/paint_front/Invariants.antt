@@ -1,8 +1,7 @@
-use Rattle.std.proofs.Common.{◌≡◌, ◌≤◌}
 use Rattle.display_lock.specs.Turns.{IsOpen, SameTurn, client_in}
 use Rattle.sw_cursor.specs.Covers.{PaintsOn, IsCover}
-use Rattle.shared_painter.specs.Painted.{PaintsEvenly}
-use Rattle.shared_painter.proofs.rows.paint_even.Given as goal
+use Rattle.shared_painter.specs.Painted.{PaintsInks}
+use Rattle.shared_painter.proofs.rows.paint_front.Given as goal
 
 abbrev pub invariant-loop-j : goal.invariant-loop-j
 invariant-loop-j l = record {
@@ -10,6 +9,5 @@ invariant-loop-j l = record {
   is_open : IsOpen l.turn;
   goes : PaintsOn (client_in l.fn.turn) (client_in l.turn);
   covers : IsCover (client_in l.turn) l.cover;
-  log : PaintsEvenly l.ink l.first l.j (client_in l.fn.turn) (client_in l.turn) l.count;
-  few : l.count ≤ l.j;
+  log : PaintsInks l.inks l.first l.j (client_in l.fn.turn) (client_in l.turn) l.j;
 }
