@@ -74,7 +74,6 @@ fn moved_by(by: Point, place: Rect) -> Rect
 
 // Where a place goes with the window that a plan's step moves; without one it stays.
 fn moved_place(core: &Core, plan: &Plan, command: &Command, place: Rect) -> Rect
-    requires served { IsServed core.now.size core.now.state }
     requires belongs { Belongs core.now.size plan.now core.now.state }
     requires command { plan.now.command ≡ command.now }
     requires place { IsNearby place }
