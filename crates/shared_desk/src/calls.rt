@@ -24,20 +24,28 @@ pub enum SharedStop {
     OutOfMemory,
 }
 
+// The most times that a caller yields between two tries.
+const MOST_YIELDS: u32 = 16;
+
 impl SharedDesk {
-    // Tries until the desk is at home.
+    // Tries until the desk is at home. Between two tries it yields, each time twice as often as before, up to MOST_YIELDS: so the
+    // callers who wait seldom take the desk's word from the one who calls.
     fn take<R: Wait>(&self, rt: &R, lease: Lease) -> (HeldLease, Desk)
         requires of { IsOf self.now lease }
         ensures lease { result.0 ≡ lease }
         ensures desk { SameDesk result.1 lease.desk }
     {
         let mut lease = lease;
+        let mut yields = 1u32;
         for _ in rt.forever() {
             match self.try_take(lease) {
                 Ok(took) => return took,
                 Err(same) => lease = same,
             }
-            thread::yield_now();
+            for _ in 0..yields {
+                thread::yield_now();
+            }
+            yields = MOST_YIELDS.min(yields.saturating_mul(2));
         }
         unreachable!()
     }
