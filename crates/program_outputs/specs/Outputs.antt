@@ -7,7 +7,7 @@ use Rattle.script_grammar.specs.Session.{Session}
 use Rattle.script_grammar.specs.Printing.{script_text}
 use Rattle.script_grammar.specs.Reading.{text_lines}
 use Rattle.script_grammar.specs.declared.lines.Cause.{Cause}
-use Rattle.script_store.specs.Cuts.{through_end}
+use Rattle.script_reader.specs.Cuts.{through_end}
 use Rattle.session_replay.specs.Runs.{in_order}
 use Rattle.session_replay.specs.Files.{file_of, IsFileOf}
 use Rattle.session_replay.specs.Verdicts.{IsVerdict}

@@ -1,5 +1,5 @@
 //! Where a script ends.
-use script_store::{cut, split};
+use script_reader::{cut_at, split};
 use std::process::Abort;
 use std::test::Fail;
 
@@ -31,9 +31,11 @@ fn scripts_end_with_their_first_line_end(rt: HostRuntime) -> Result<(), Fail> {
 
 #[test]
 fn lines_are_cut_at_their_line_feed(rt: HostRuntime) -> Result<(), Fail> {
-    assert!(rt; cut(b"screen 2 1\nend\n") == Some((b"screen 2 1".as_slice(), b"end\n".as_slice())));
-    assert!(rt; cut(b"\n\n") == Some((b"".as_slice(), b"\n".as_slice())));
-    assert!(rt; cut(b"end") == None);
-    assert!(rt; cut(b"") == None);
+    assert!(rt;
+        cut_at(b"screen 2 1\nend\n", b'\n') == Some((b"screen 2 1".as_slice(), b"end\n".as_slice()))
+    );
+    assert!(rt; cut_at(b"\n\n", b'\n') == Some((b"".as_slice(), b"\n".as_slice())));
+    assert!(rt; cut_at(b"end", b'\n') == None);
+    assert!(rt; cut_at(b"", b'\n') == None);
     Ok(())
 }

@@ -1,1 +1,5 @@
-pub mod Errs
+pub mod Forms
+pub mod WideRows
+pub mod GlyphParts
+pub mod Adding
+pub mod Counting

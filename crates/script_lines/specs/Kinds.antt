@@ -4,7 +4,6 @@ use Rattle.glyph_masks.specs.Glyphs.{FontView}
 use Rattle.script_grammar.specs.Judging.{◌⊛◌}
 use Rattle.script_grammar.specs.Words.{declared_read}
 use Rattle.script_grammar.specs.Lines.{CallForm, call_forms, call_by}
-use Rattle.script_grammar.specs.declared.lines.LineCall.{LineCall}
 use Rattle.script_grammar.specs.declared.lines.CallLine.{CallLine}
 use Rattle.script_grammar.specs.declared.lines.Cause.{Cause}
 use Rattle.script_grammar.specs.declared.lines.Cause.TheVariants.{Form}

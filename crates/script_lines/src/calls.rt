@@ -118,7 +118,6 @@ fn call(
 
 /// The line of a call that words make with so many clients, these fonts and so many images; how many calls the client has made
 /// isn't looked at.
-#[tactic(auto, using(script_words::proofs::Joins::two_err))]
 pub fn call_line(
     alloc: Global,
     clients: u32,

@@ -12,7 +12,7 @@ use script_words::{
 use std::alloc::Global;
 
 /// `create NAME LAYER`
-#[tactic(auto, unfolding(script_grammar::specs::Lines::create_read), using(script_words::proofs::Joins::two_err))]
+#[tactic(auto, unfolding(script_grammar::specs::Lines::create_read))]
 pub(crate) fn create(alloc: Global, words: &[&[u8]]) -> Judged<LineCall>
     ensures { IfOk result (λ read. read ≡ create_read (map (λ w. w.now) words.now)) }
 {
@@ -69,7 +69,7 @@ pub(crate) fn region(alloc: Global, words: &[&[u8]]) -> Judged<LineCall>
 }
 
 /// `move WIN OX OY`
-#[tactic(auto, unfolding(script_grammar::specs::Lines::move_read), using(script_words::proofs::Joins::two_err))]
+#[tactic(auto, unfolding(script_grammar::specs::Lines::move_read))]
 pub(crate) fn relocation(alloc: Global, words: &[&[u8]]) -> Judged<LineCall>
     ensures { IfOk result (λ read. read ≡ move_read (map (λ w. w.now) words.now)) }
 {

@@ -10,13 +10,13 @@ use Rattle.script_grammar.specs.Session.{Session, Asset, fonts_of, images_of}
 use Rattle.script_grammar.specs.Reading.{Before, Within, Finished, and_asset, asset_in}
 use Rattle.script_grammar.specs.declared.lines.Cause.{Cause}
 use Rattle.script_grammar.specs.declared.lines.CallLine.{CallLine}
-use Rattle.script_stock.specs.Stock.{stock_read, IsAdded}
-use Rattle.script_stock.proofs.Adding.{adds_to_stock, refuses_line}
-use Rattle.script_store.specs.Heads.{head_of}
-use Rattle.script_store.specs.Places.{places_from, calls_start, call_places}
-use Rattle.script_store.proofs.Counts.{length-places}
-use Rattle.script_store.specs.declared.places.LinePlace.{LinePlace}
-use Rattle.script_store.specs.declared.heads.Head.{Head}
+use Rattle.script_lines.specs.Stock.{stock_read, IsAdded}
+use Rattle.script_lines.proofs.Adding.{adds_to_stock, refuses_line}
+use Rattle.script_reader.specs.Heads.{head_of}
+use Rattle.script_reader.specs.Places.{places_from, calls_start, call_places}
+use Rattle.script_reader.proofs.Counts.{length-places}
+use Rattle.script_reader.specs.declared.places.LinePlace.{LinePlace}
+use Rattle.script_reader.specs.declared.heads.Head.{Head}
 use Rattle.script_reader.specs.declared.bodies.Body.{Body}
 use Rattle.script_reader.specs.Bodies.{BodyReads}
 use Rattle.script_reader.proofs.Behind.{asset_with}

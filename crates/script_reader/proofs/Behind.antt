@@ -12,8 +12,8 @@ use Rattle.script_grammar.specs.Reading.{Before, Within, Finished, and_asset, an
 use Rattle.script_grammar.specs.declared.lines.Cause.{Cause}
 use Rattle.script_grammar.specs.declared.lines.Cause.TheVariants.{Form, Number, Range, Unknown, Repeated, Missing, Many, End}
 use Rattle.script_grammar.specs.declared.lines.CallLine.{CallLine}
-use Rattle.script_store.specs.Places.{places_from, calls_start, call_places}
-use Rattle.script_store.specs.declared.places.LinePlace.{LinePlace}
+use Rattle.script_reader.specs.Places.{places_from, calls_start, call_places}
+use Rattle.script_reader.specs.declared.places.LinePlace.{LinePlace}
 use Rattle.script_reader.specs.Bodies.{is_end_line}
 use Rattle.script_reader.specs.ReadTo.{lines_so_far}
 

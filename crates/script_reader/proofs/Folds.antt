@@ -19,7 +19,7 @@ use Rattle.script_grammar.specs.Reading.{Before, Nothing, Within, is_blank, by_w
 use Rattle.script_grammar.specs.declared.lines.Cause.{Cause}
 use Rattle.script_grammar.specs.declared.lines.Cause.TheVariants.{Form, End}
 use Rattle.script_grammar.proofs.Sound.{lines_before, Reached, text_step}
-use Rattle.line_words.specs.Few.{IsOpen}
+use Rattle.script_reader.specs.Few.{IsOpen}
 use Rattle.script_reader.specs.Stages.{stage_before}
 use Rattle.script_reader.specs.declared.heads.HeadStage.{HeadStage}
 use Rattle.script_reader.specs.declared.heads.HeadStage.TheVariants.{Start, Deep as DeepStage, Measured}

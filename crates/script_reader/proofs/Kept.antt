@@ -8,9 +8,9 @@ use Rattle.script_grammar.specs.Printing.{ended_line}
 use Rattle.script_grammar.specs.Reading.{Within, Finished, text_in, script_from, text_lines, script_of}
 use Rattle.script_grammar.specs.declared.lines.Cause.{Cause}
 use Rattle.script_grammar.specs.declared.lines.Cause.TheVariants.{End}
-use Rattle.script_counts.specs.Counted.{IsCounted}
-use Rattle.script_stock.specs.Stock.{IsSomeStock}
-use Rattle.script_store.specs.declared.heads.Head.{Head}
+use Rattle.script_lines.specs.Counted.{IsCounted}
+use Rattle.script_lines.specs.Stock.{IsSomeStock}
+use Rattle.script_reader.specs.declared.heads.Head.{Head}
 use Rattle.script_reader.specs.declared.bodies.Body.{Body}
 use Rattle.script_reader.specs.ReadTo.{lines_so_far, IsReadTo}
 use Rattle.script_reader.specs.Bodies.{IsBodyOf, IsSameBody, IsFound, line_by_text, JudgesLine, JudgesLast}

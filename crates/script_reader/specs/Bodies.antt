@@ -9,10 +9,10 @@ use Rattle.script_grammar.specs.Printing.{ended_line}
 use Rattle.script_grammar.specs.Reading.{Before, Within, Finished, asset_in, call_in, line_in, text_in, last_in, script_of}
 use Rattle.script_grammar.specs.Judging.{◌or_else◌}
 use Rattle.script_grammar.specs.declared.lines.Cause.{Cause}
-use Rattle.script_counts.specs.Counted.{IsCounted}
-use Rattle.script_store.specs.Places.{call_places}
-use Rattle.script_store.specs.Heads.{head_of}
-use Rattle.script_store.specs.declared.heads.Head.{Head}
+use Rattle.script_lines.specs.Counted.{IsCounted}
+use Rattle.script_reader.specs.Places.{call_places}
+use Rattle.script_reader.specs.Heads.{head_of}
+use Rattle.script_reader.specs.declared.heads.Head.{Head}
 use Rattle.script_reader.specs.declared.bodies.Body.{Body}
 use Rattle.script_reader.specs.ReadTo.{lines_so_far}
 

@@ -5,7 +5,7 @@ use Rattle.script_grammar.specs.Session.{Session}
 use Rattle.script_grammar.specs.Limits.{IsSession}
 use Rattle.script_grammar.specs.Printing.{head_lines, asset_words, line_words, ended_line}
 use Rattle.script_grammar.specs.Reading.{Within, script_from, text_lines, script_of}
-use Rattle.script_store.specs.declared.heads.Head.{Head}
+use Rattle.script_reader.specs.declared.heads.Head.{Head}
 
 -- a session that has a head alone
 abbrev pub headed : Head → Session

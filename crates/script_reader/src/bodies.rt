@@ -1,17 +1,17 @@
 //! The lines behind the head.
 ghost use Rattle.std.specs.Prelude.{◌≡◌, ◌≤◌, length, map, IfOk};
 ghost use Rattle.script_grammar.specs.Session.{is_paint};
-ghost use Rattle.script_stock.specs.Stock.{IsSomeStock};
+ghost use Rattle.script_lines.specs.Stock.{IsSomeStock};
 ghost use Rattle.script_reader.specs.Bodies.{IsSameBody, is_end_line, JudgesLine, call_by_words, unended_by_words, line_by_words, line_by_text};
 
+use crate::heads::Head;
+use crate::places::LinePlace;
+use crate::words::line_words;
 use gfx_fills::Image;
 use glyph_masks::Font;
-use line_words::line_words;
 use qws_base::OutOfMemory;
-use script_counts::{Counts, next_call};
 use script_grammar::{Cause, LineCall};
-use script_stock::next_asset;
-use script_store::{Head, LinePlace};
+use script_lines::{Counts, next_asset, next_call};
 use std::alloc::Global;
 
 /// What was found behind the head: the fonts and images, how many calls each client has, and the places of all calls.
@@ -65,6 +65,7 @@ fn body_call(
         Ok(line) => {
             let paints = paints(&line.call);
             let client = line.client;
+            drop(line);
             body.places.push(LinePlace {
                 start,
                 client,

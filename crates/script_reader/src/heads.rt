@@ -7,10 +7,18 @@ ghost use Rattle.script_reader.specs.Stages.{stage_before, next_before, measured
 use qws_base::{Depth, Rgb, Size};
 use script_grammar::Cause;
 use script_lines::{clients, depth, screen};
-use script_store::Head;
+
+/// What the lines before the fonts and images say: the screen, and how many clients there are.
+#[derive(Clone, Copy, Debug, PartialEq, Eq)]
+pub struct Head {
+    pub depth: Depth,
+    pub size: Size,
+    pub backdrop: Rgb,
+    pub clients: u32,
+}
 
 /// What stands before a line of the head.
-#[derive(Clone, Copy, Debug, PartialEq, Eq)]
+#[derive(Clone, Copy)]
 pub(crate) enum HeadStage {
     /// Nothing.
     Start,
@@ -27,7 +35,7 @@ pub(crate) enum HeadStage {
 }
 
 /// What stands behind a line of the head.
-#[derive(Clone, Copy, Debug, PartialEq, Eq)]
+#[derive(Clone, Copy)]
 pub(crate) enum Next {
     /// A part of the head.
     Part { stage: HeadStage },

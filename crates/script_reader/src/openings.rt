@@ -6,11 +6,11 @@ ghost use Rattle.script_words.specs.Judged.{seen};
 ghost use Rattle.script_reader.specs.Stages.{stage_before, next_before};
 ghost use Rattle.script_reader.specs.ReadTo.{headed, IsReadTo};
 
-use crate::heads::{HeadStage, Next, head_words};
-use line_words::line_words;
+use crate::cuts::cut_at;
+use crate::heads::{Head, HeadStage, Next, head_words};
+use crate::words::line_words;
 use qws_base::OutOfMemory;
 use script_grammar::Cause;
-use script_store::{Head, cut};
 use std::alloc::Global;
 
 // What stands behind a line of the head, or the first cause why it may not stand there.
@@ -51,7 +51,7 @@ pub(crate) fn opening(
     let mut stage = HeadStage::Start;
     let mut number = 1;
     let mut rest = bytes;
-    while let Some((text, after)) = cut(rest) {
+    while let Some((text, after)) = cut_at(rest, b'\n') {
         match head_text(alloc, stage, text)? {
             Err(cause) => return Ok(Err((number, cause))),
             Ok(Next::Whole { head }) => return Ok(Ok((head, number + 1, after))),

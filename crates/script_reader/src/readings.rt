@@ -3,16 +3,17 @@ ghost use Rattle.std.specs.Prelude.{◌≡◌, ◌≤◌, ◌<◌, Err, [], leng
 ghost use Rattle.std.specs.Result.{MatchResult};
 ghost use Rattle.script_grammar.specs.Reading.{script_of};
 ghost use Rattle.script_grammar.specs.declared.lines.Cause.TheVariants.{End};
-ghost use Rattle.script_stock.specs.Stock.{IsSomeStock};
+ghost use Rattle.script_lines.specs.Stock.{IsSomeStock};
 ghost use Rattle.script_reader.specs.ReadTo.{headed, IsReadTo};
 ghost use Rattle.script_reader.specs.Bodies.{IsBodyOf, IsFound, JudgesLast};
 
 use crate::bodies::{Body, body_text, make_room};
+use crate::cuts::cut_at;
+use crate::heads::Head;
 use crate::openings::opening;
 use qws_base::OutOfMemory;
-use script_counts::Counts;
 use script_grammar::Cause;
-use script_store::{Head, cut};
+use script_lines::Counts;
 use std::alloc::Global;
 
 // What is found in a head alone.
@@ -75,7 +76,7 @@ fn keep_lines(
 {
     let mut number = number;
     let mut rest = rest;
-    while let Some((text, after)) = cut(rest) {
+    while let Some((text, after)) = cut_at(rest, b'\n') {
         make_room(body, rest.len())?;
         let start = bytes.len() - rest.len();
         match body_text(alloc, head, body, start, text)? {

@@ -23,10 +23,6 @@ both : (a b : Bool) → (a && b) ≡ true → (a ≡ true) × (b ≡ true)
 both true b h = (refl, h)
 both false b h = cc
 
-pub front_passes : (test : ℕ → Bool) (rest : List ℕ) → 0 < length rest → list_all test rest ≡ true → test (get_or rest 0 0) ≡ true
-front_passes test [] some each = absurd (omega arith)
-front_passes test (c ∷ rest) some each = (both (test c) (list_all test rest) each).0
-
 pub read_digit : (radix : ℕ) (test : ℕ → Bool) (most : ℕ) (word : List ℕ) (n d : ℕ) (rest : List ℕ) → 0 < length rest → d ≡ digit_value (get_or rest 0 0) → d < radix → IsReadTo radix test most word n rest → IsReadTo radix test most word (n * radix + d) (take (length rest - 1) (drop 1 rest))
 read_digit radix test most word n d [] some is small h = absurd (omega arith)
 read_digit radix test most word n d (c ∷ rest) some is small h =

@@ -1,5 +1,5 @@
 -- The first of three causes, and values in front of others.
-use Rattle.std.proofs.Common.{◌≡◌, List, [], ◌∷◌, ◌++◌, Bool, true, false, nat_le, cond, Result, Ok, Err, refl, ap, sym, ◌∙◌, arith, append_assoc}
+use Rattle.std.proofs.Common.{◌≡◌, List, [], ◌∷◌, Bool, true, false, nat_le, cond, Result, Ok, Err, refl, ap, arith, append_assoc}
 use Rattle.std.proofs.lemmas.Bool.Decides.{nat_tests}
 use Rattle.script_grammar.specs.Judging.{rank, first_cause, ◌⊛◌}
 use Rattle.script_grammar.specs.declared.lines.Cause.{Cause}

@@ -1,16 +1,16 @@
 -- Groups of hexadecimal digits, read one after the other.
-use Rattle.std.proofs.Common.{◌≡◌, ℕ, ◌-◌, ◌<◌, ◌≤◌, suc, List, [], ◌∷◌, ◌++◌, length, take, drop, get_or, Bool, true, false, cond, Result, Ok, Err, refl, ap, sym, ◌∙◌, subst, arith, append-nil, length-drop}
+use Rattle.std.proofs.Common.{◌≡◌, ℕ, ◌-◌, ◌<◌, ◌≤◌, suc, List, [], ◌∷◌, ◌++◌, length, take, drop, get_or, Bool, true, false, cond, Result, Ok, Err, refl, ap, sym, ◌∙◌, arith, append-nil, length-drop}
 use Rattle.std.specs.Prelude.{◌==◌, ⊤}
 use Rattle.std.specs.List.{list_all}
 use Rattle.std.specs.Str.Parse.{digits_value}
 use Rattle.std.proofs.lemmas.Bool.Decides.{nat_tests}
 use Rattle.std.proofs.Math.Seq.{take-length}
-use Rattle.script_grammar.specs.Judging.{first_cause, ◌⊛◌}
+use Rattle.script_grammar.specs.Judging.{◌⊛◌}
 use Rattle.script_grammar.specs.Spelling.{is_hex}
 use Rattle.script_grammar.specs.Words.{hex_read, pairs_read, eights_read}
 use Rattle.script_grammar.specs.declared.lines.Cause.{Cause}
 use Rattle.script_grammar.specs.declared.lines.Cause.TheVariants.{Number}
-use Rattle.script_words.specs.Judged.{pushed, fronted}
+use Rattle.script_words.specs.Judged.{fronted}
 use Rattle.script_words.proofs.Fronts.{fronted_push}
 
 -- no other cause than a wrong spelling

@@ -2,9 +2,9 @@
 use Rattle.std.proofs.Common.{◌≡◌, ℕ, List, Ok, ◌∙◌, ap, sym}
 use Rattle.script_grammar.specs.Session.{Session, fonts_of, images_of}
 use Rattle.script_grammar.specs.Reading.{script_of}
-use Rattle.script_store.specs.Heads.{head_of}
-use Rattle.script_store.specs.Places.{call_places}
-use Rattle.script_store.specs.declared.heads.Head.{Head}
+use Rattle.script_reader.specs.Heads.{head_of}
+use Rattle.script_reader.specs.Places.{call_places}
+use Rattle.script_reader.specs.declared.heads.Head.{Head}
 use Rattle.script_reader.specs.declared.bodies.Body.{Body}
 use Rattle.script_reader.specs.Bodies.{IsFound}
 use Rattle.session_script.specs.Stored.{said_by, or_empty, IsFoundIn}

@@ -17,12 +17,12 @@ use Rattle.script_grammar.specs.Spelling.{words_of}
 use Rattle.script_grammar.specs.declared.lines.CallLine.{CallLine}
 use Rattle.script_grammar.proofs.Sound.{read_is_printed}
 use Rattle.script_grammar.proofs.Plain.{Plain, is_line_byte, no_feed, none_of, line_bytes, cut_words}
-use Rattle.script_store.specs.Places.{calls_start, call_places, is_place_by, starts_by, starts_of}
+use Rattle.script_reader.specs.Places.{calls_start, call_places, is_place_by, starts_by, starts_of}
 use Rattle.session_script.specs.Stored.{said_by, IsFoundIn}
-use Rattle.script_store.specs.declared.places.LinePlace.{LinePlace}
-use Rattle.script_store.specs.declared.heads.Head.{Head}
-use Rattle.script_store.proofs.Counts.{lines_counted}
-use Rattle.script_store.proofs.Begins.{IsLineAt, said_line}
+use Rattle.script_reader.specs.declared.places.LinePlace.{LinePlace}
+use Rattle.script_reader.specs.declared.heads.Head.{Head}
+use Rattle.script_reader.proofs.Counts.{lines_counted}
+use Rattle.script_reader.proofs.Begins.{IsLineAt, said_line}
 
 module _ {bytes : List ℕ} {head : Head} {fonts : List FontView} {images : List ImageView} {places : List LinePlace} (kept : IsFoundIn bytes head fonts images places) where
   pub limits : IsSession (said_by bytes)

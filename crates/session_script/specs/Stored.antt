@@ -6,10 +6,10 @@ use Rattle.gfx_fills.specs.Images.{ImageView}
 use Rattle.script_grammar.specs.Session.{Session, fonts_of, images_of}
 use Rattle.script_grammar.specs.Reading.{script_of}
 use Rattle.script_grammar.specs.declared.lines.Cause.{Cause}
-use Rattle.script_store.specs.Places.{call_places}
-use Rattle.script_store.specs.declared.places.LinePlace.{LinePlace}
-use Rattle.script_store.specs.declared.heads.Head.{Head}
-use Rattle.script_store.specs.Heads.{head_of}
+use Rattle.script_reader.specs.Places.{call_places}
+use Rattle.script_reader.specs.declared.places.LinePlace.{LinePlace}
+use Rattle.script_reader.specs.declared.heads.Head.{Head}
+use Rattle.script_reader.specs.Heads.{head_of}
 
 -- the session that was read, or one that says nothing
 abbrev pub or_empty : Result Session (ℕ × Cause) → Session

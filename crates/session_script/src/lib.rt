@@ -12,4 +12,4 @@ pub use names::Names;
 pub use script::Script;
 pub use script_grammar::{Cause, ScriptStop};
 pub use script_names::Call;
-pub use script_store::split;
+pub use script_reader::split;

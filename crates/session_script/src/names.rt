@@ -59,13 +59,15 @@ impl Names {
         ensures { IfOk result (λ call. option_map (λ line. meaning script.now (naming self.now.slots) line.call) (call_line script.now self.now.client k) ≡ Some call) }
     {
         let line = line_of(alloc, script, self.client, k)?;
-        meaning(
+        let call = meaning(
             alloc,
             script.fonts(),
             script.images(),
             &self.slots,
             &line.call,
-        )
+        );
+        drop(line);
+        call
     }
 
     /// Takes in the reply to the client's call `k`. The names are as they were where there is no memory.
@@ -85,6 +87,8 @@ impl Names {
             return Ok(());
         }
         let line = line_of(alloc, script, self.client, k)?;
-        self.slots.learn(alloc, &line.call, reply)
+        let learned = self.slots.learn(alloc, &line.call, reply);
+        drop(line);
+        learned
     }
 }

@@ -13,8 +13,9 @@ use gfx_fills::Image;
 use glyph_masks::Font;
 use qws_base::{Depth, OutOfMemory, Rgb, Size};
 use script_grammar::ScriptStop;
-use script_reader::{Body, found};
-use script_store::{Head, LinePlace, Starts, client_starts, cut, paint_places, step_places};
+use script_reader::{
+    Body, Head, LinePlace, Starts, client_starts, cut_at, found, paint_places, step_places,
+};
 use std::alloc::Global;
 use std::marker::Model;
 
@@ -33,7 +34,7 @@ pub struct Script {
 impl Model for Script {
     ghost use Rattle.std.specs.Prelude.{◌≡◌};
     ghost use Rattle.script_grammar.specs.Session.{Session};
-    ghost use Rattle.script_store.specs.Places.{starts_of};
+    ghost use Rattle.script_reader.specs.Places.{starts_of};
     ghost use Rattle.session_script.specs.Stored.{said_by, IsFoundIn};
 
     ghost Value = { Session };
@@ -159,7 +160,7 @@ impl Script {
         let starts = &self.starts[client as usize];
         let start = starts.at(k);
         let rest = &self.bytes[start..];
-        match cut(rest) {
+        match cut_at(rest, b'\n') {
             Some((line, _)) => line,
             None => unreachable!(),
         }

@@ -1,12 +1,12 @@
-use Rattle.std.proofs.Common.{◌≡◌, ℕ, List, ◌-◌, length, map, take, drop, get_or, Err, arith}
-use Rattle.script_grammar.specs.Words.{window_read, placed_point_read, ink_then}
+use Rattle.std.proofs.Common.{List, ℕ, ap, ◌∙◌, arith}
 use Rattle.script_grammar.specs.Lines.{written_read}
-use Rattle.script_words.specs.Judged.{joined4}
-use Rattle.script_words.proofs.Readings.{no_word}
-use Rattle.script_lines.proofs.Errs.{text_err}
+use Rattle.script_lines.proofs.Forms.{made4, bad4, text_is, word}
 use Rattle.script_lines.proofs.paints.text.Goals as goal
 
+pub returns-in-Ok : goal.returns-in-Ok
+returns-in-Ok c =
+    let each = c.in-Ok.ensures.each in
+    made4 _ (text_is c.args.fonts.now c.args.words.now (omega arith)) c.in_ok-window.ensures c.placed_point.ensures c.ink_words-ink.ensures.ink (c.in_ok-text.ensures ∙ ap (λ (ws : List (List ℕ)). written_read c.args.fonts.now (word c.args.words.now 1) ws) c.ink_words-ink.ensures.rest) each.0 each.1 each.2 each.3
+
 pub returns-in-Err : goal.returns-in-Err
-returns-in-Err c =
-    let read : joined4 (window_read ((get_or c.args.words.now 0 no_word).now)) (placed_point_read ((get_or c.args.words.now 2 no_word).now) ((get_or c.args.words.now 3 no_word).now)) ((ink_then (map (λ w. w.now) (take (length c.args.words.now - 4) (drop 4 c.args.words.now)))).0) (written_read c.args.fonts.now ((get_or c.args.words.now 1 no_word).now) (ink_then (map (λ w. w.now) (take (length c.args.words.now - 4) (drop 4 c.args.words.now)))).1) ≡ Err c.in-Err.cause = cc (c.in-Err.is, c.join4.ensures.value, c.in_ok-window.ensures, c.placed_point.ensures, c.ink_words-ink.ensures.ink, c.in_ok-text.ensures, c.ink_words-ink.ensures.rest) in
-    text_err c.args.fonts.now c.args.words.now c.in-Err.cause (omega arith) read
+returns-in-Err c = bad4 _ (text_is c.args.fonts.now c.args.words.now (omega arith)) c.in_ok-window.ensures c.placed_point.ensures c.ink_words-ink.ensures.ink (c.in_ok-text.ensures ∙ ap (λ (ws : List (List ℕ)). written_read c.args.fonts.now (word c.args.words.now 1) ws) c.ink_words-ink.ensures.rest) c.join4.ensures.value c.in-Err.is

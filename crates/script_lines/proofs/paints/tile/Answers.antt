@@ -1,11 +1,11 @@
-use Rattle.std.proofs.Common.{◌≡◌, ℕ, List, ◌-◌, length, map, take, drop, get_or, Err, arith}
-use Rattle.script_grammar.specs.Words.{declared_read, window_read, placed_rect_read}
-use Rattle.script_words.specs.Judged.{joined3}
-use Rattle.script_words.proofs.Readings.{no_word}
-use Rattle.script_lines.proofs.Errs.{tile_err}
+use Rattle.std.proofs.Common.{arith}
+use Rattle.script_lines.proofs.Forms.{made3, bad3, tile_is}
 use Rattle.script_lines.proofs.paints.tile.Goals as goal
 
+pub returns-in-Ok : goal.returns-in-Ok
+returns-in-Ok c =
+    let each = c.in-Ok.ensures.each in
+    made3 _ (tile_is c.args.images c.args.words.now (omega arith)) c.in_ok-window.ensures c.placed_rect.ensures c.declared.ensures.value each.0 each.1 each.2
+
 pub returns-in-Err : goal.returns-in-Err
-returns-in-Err c =
-    let read : joined3 (window_read ((get_or c.args.words.now 0 no_word).now)) (placed_rect_read ((get_or c.args.words.now 1 no_word).now) ((get_or c.args.words.now 2 no_word).now) ((get_or c.args.words.now 3 no_word).now) ((get_or c.args.words.now 4 no_word).now)) (declared_read c.args.images ((get_or c.args.words.now 5 no_word).now)) ≡ Err c.in-Err.cause = cc (c.in-Err.is, c.join3.ensures.value, c.in_ok-window.ensures, c.placed_rect.ensures, c.declared.ensures.value) in
-    tile_err c.args.images c.args.words.now c.in-Err.cause (omega arith) read
+returns-in-Err c = bad3 _ (tile_is c.args.images c.args.words.now (omega arith)) c.in_ok-window.ensures c.placed_rect.ensures c.declared.ensures.value c.join3.ensures.value c.in-Err.is

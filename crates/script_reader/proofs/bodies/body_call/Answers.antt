@@ -1,9 +1,9 @@
 use Rattle.std.proofs.Common.{◌∙◌, ◌++◌, ◌∷◌, [], sym, ap, subst, map, length, arith, List, ℕ, Bor, Result}
 use Rattle.script_grammar.specs.declared.lines.Cause.{Cause}
 use Rattle.script_grammar.specs.declared.lines.CallLine.{CallLine}
-use Rattle.script_counts.specs.Counted.{IsBehind, ReadBehind}
-use Rattle.script_store.specs.declared.places.LinePlace.{LinePlace}
-use Rattle.script_store.specs.declared.heads.Head.{Head}
+use Rattle.script_lines.specs.Counted.{IsBehind, ReadBehind}
+use Rattle.script_reader.specs.declared.places.LinePlace.{LinePlace}
+use Rattle.script_reader.specs.declared.heads.Head.{Head}
 use Rattle.script_reader.proofs.Behind.{call_ok, place_more}
 use Rattle.script_reader.proofs.bodies.body_call.Goals as goal
 

@@ -1,7 +1,7 @@
 use Rattle.std.proofs.Common.{◌≡◌, ◌∙◌, sym, ap, map, List, ℕ, Bor}
 use Rattle.script_grammar.specs.Session.{Session}
 use Rattle.script_grammar.specs.Reading.{Within, line_in, text_in}
-use Rattle.line_words.proofs.Bounds.{many_words}
+use Rattle.script_reader.proofs.Bounds.{many_words}
 use Rattle.script_reader.proofs.Folds.{within_by, within_open, filled_by, match_none, match_some}
 use Rattle.script_reader.proofs.Assets.{judged_as, if_ok_more}
 use Rattle.script_reader.proofs.bodies.body_text.Goals as goal

@@ -3,8 +3,8 @@ use Rattle.script_grammar.specs.Judging.{◌or_else◌}
 use Rattle.script_grammar.specs.Reading.{Before, call_in}
 use Rattle.script_grammar.specs.declared.lines.Cause.{Cause}
 use Rattle.script_grammar.specs.declared.lines.Cause.TheVariants.{Form}
-use Rattle.script_counts.specs.Counted.{IsCounted}
-use Rattle.script_stock.specs.Stock.{stock_read, AddedBy}
+use Rattle.script_lines.specs.Counted.{IsCounted}
+use Rattle.script_lines.specs.Stock.{stock_read, AddedBy}
 use Rattle.script_reader.specs.Bodies.{unended_by_words}
 use Rattle.script_reader.proofs.Behind.{none_yet, other_cause}
 use Rattle.script_reader.proofs.Assets.{asset_added, asset_refused, judged_as, if_ok_more}

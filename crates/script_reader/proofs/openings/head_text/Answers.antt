@@ -1,6 +1,6 @@
 use Rattle.std.proofs.Common.{◌∙◌, sym, ap, map, List, ℕ, Bor}
 use Rattle.script_grammar.specs.Reading.{line_in}
-use Rattle.line_words.proofs.Bounds.{many_words}
+use Rattle.script_reader.proofs.Bounds.{many_words}
 use Rattle.script_reader.specs.Stages.{stage_before}
 use Rattle.script_reader.proofs.Folds.{head_by, head_open, filled_by, match_none, match_some}
 use Rattle.script_reader.proofs.openings.head_text.Goals as goal

@@ -1,5 +1,5 @@
 use Rattle.std.proofs.Common.{◌≡◌, Err, sym}
-use Rattle.script_words.specs.Judged.{joined, joined3}
+use Rattle.script_words.specs.Judged.{joined}
 use Rattle.script_words.proofs.Joins.{pair_then_err}
 use Rattle.script_words.proofs.causes.join3.Goals as goal
 

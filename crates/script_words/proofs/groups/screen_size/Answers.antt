@@ -1,4 +1,4 @@
-use Rattle.std.proofs.Common.{◌≡◌, Ok, Err, ◌∙◌, arith}
+use Rattle.std.proofs.Common.{◌≡◌, Ok, Err, ◌∙◌}
 use Rattle.qws_base.specs.Sides.{Sides}
 use Rattle.script_grammar.specs.Spelling.{width_read, height_read}
 use Rattle.script_words.specs.Judged.{joined}

@@ -12,9 +12,9 @@ returns-clause-ok c =
     let s = c.self.inside in
     let said = c.args.script.now in
     let reply = c.args.reply.now in
-    on_ok c.learn.result
+    on_ok c.learn-learned.result
     (λ h.
     ap (λ (v : NamesView). option_map (λ (l : CallLine). learned (naming v.slots) l.call reply) (call_line said v.client c.args.k)) (sym c.self.view_is)
     ∙ ap (option_map (λ (l : CallLine). learned (naming s.slots) l.call reply)) c.in_ok-line.ensures.line
     ∙ ap Some (sym h))
-    c.learn.ensures.ok
+    c.learn-learned.ensures.ok

@@ -1,6 +1,6 @@
 use Rattle.std.proofs.Common.{◌∙◌, ap}
 use Rattle.script_grammar.specs.Session.{Session}
-use Rattle.script_store.specs.declared.heads.Head.{Head}
+use Rattle.script_reader.specs.declared.heads.Head.{Head}
 use Rattle.session_script.proofs.script.Script.backdrop.Goals as goal
 
 pub returns : goal.returns

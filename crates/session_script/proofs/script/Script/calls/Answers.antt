@@ -1,9 +1,9 @@
 use Rattle.std.proofs.Common.{ap, subst, arith, length}
 use Rattle.script_grammar.specs.Session.{Session}
 use Rattle.script_grammar.specs.Limits.{IsSession}
-use Rattle.script_store.specs.Places.{calls_start}
+use Rattle.script_reader.specs.Places.{calls_start}
 use Rattle.session_script.specs.Stored.{said_by}
-use Rattle.script_store.proofs.Counts.{length-places}
+use Rattle.script_reader.proofs.Counts.{length-places}
 use Rattle.session_script.proofs.Kept.{limits}
 use Rattle.session_script.proofs.script.Script.calls.Goals as goal
 

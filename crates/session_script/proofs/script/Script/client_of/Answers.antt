@@ -4,10 +4,10 @@ use Rattle.std.specs.Option.{option_map}
 use Rattle.std.proofs.lemmas.Option.{slice_get_read}
 use Rattle.script_grammar.specs.Session.{Session}
 use Rattle.script_grammar.specs.declared.lines.CallLine.{CallLine}
-use Rattle.script_store.specs.Places.{calls_start}
+use Rattle.script_reader.specs.Places.{calls_start}
 use Rattle.session_script.specs.Stored.{said_by}
-use Rattle.script_store.specs.declared.places.LinePlace.{LinePlace}
-use Rattle.script_store.proofs.Counts.{length-places, client_at}
+use Rattle.script_reader.specs.declared.places.LinePlace.{LinePlace}
+use Rattle.script_reader.proofs.Counts.{length-places, client_at}
 use Rattle.session_script.proofs.Kept.{limits, below_at}
 use Rattle.session_script.proofs.script.Script.client_of.Goals as goal
 

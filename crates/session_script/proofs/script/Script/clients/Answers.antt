@@ -1,7 +1,7 @@
 use Rattle.std.proofs.Common.{◌∙◌, ap, subst}
 use Rattle.script_grammar.specs.Session.{Session}
 use Rattle.script_grammar.specs.Limits.{IsSession}
-use Rattle.script_store.specs.declared.heads.Head.{Head}
+use Rattle.script_reader.specs.declared.heads.Head.{Head}
 use Rattle.session_script.proofs.Kept.{limits}
 use Rattle.session_script.proofs.script.Script.clients.Goals as goal
 

@@ -3,7 +3,7 @@ use Rattle.std.specs.Option.{option_map}
 use Rattle.script_grammar.specs.Session.{Session, call_line}
 use Rattle.script_grammar.specs.Limits.{IsSession}
 use Rattle.script_grammar.specs.Printing.{line_words}
-use Rattle.line_words.proofs.Seams.{rest_of}
+use Rattle.script_reader.proofs.Seams.{rest_of}
 use Rattle.session_script.proofs.Kept.{limits, starts_here, line_here, words_cut, not_whole}
 use Rattle.session_script.proofs.script.Script.line.Goals as goal
 

@@ -1,10 +1,10 @@
 use Rattle.std.proofs.Common.{◌∙◌, ap, length, List}
 use Rattle.std.specs.List.{filter}
 use Rattle.script_grammar.specs.Session.{Session, paint_count}
-use Rattle.script_store.specs.Places.{calls_start, is_place_by}
+use Rattle.script_reader.specs.Places.{calls_start, is_place_by}
 use Rattle.session_script.specs.Stored.{said_by}
-use Rattle.script_store.specs.declared.places.LinePlace.{LinePlace}
-use Rattle.script_store.proofs.Counts.{paints_counted}
+use Rattle.script_reader.specs.declared.places.LinePlace.{LinePlace}
+use Rattle.script_reader.proofs.Counts.{paints_counted}
 use Rattle.session_script.proofs.script.Script.paints.Goals as goal
 
 pub returns : goal.returns

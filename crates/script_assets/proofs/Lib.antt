@@ -1,2 +1,0 @@
-pub mod WideRows
-pub mod GlyphParts

@@ -1,5 +1,0 @@
-use Rattle.script_stock.proofs.Adding.{adds_to_stock}
-use Rattle.script_stock.proofs.laws.adds_to_stock.Goals as goal
-
-pub returns : goal.returns
-returns c = adds_to_stock

@@ -1,5 +1,0 @@
-use Rattle.script_stock.proofs.Adding.{refuses_line}
-use Rattle.script_stock.proofs.laws.refuses_line.Goals as goal
-
-pub returns : goal.returns
-returns c = refuses_line

@@ -1,4 +1,0 @@
-pub mod Cuts
-pub mod Heads
-pub mod Places
-pub mod Laws
